@@ -1,0 +1,110 @@
+-- Laws of a choice and of counting. Assumes nothing.
+use Prim.Native.Nat.{ℕ, zero, suc, _+_, _≤_, _<_}
+use mathlib.Core.Path.{_≡_, refl, sym}
+use mathlib.Core.Bool.{Bool, true, false, not, true≢false}
+use native.Mathlib.Omega.{arith}
+use native.Mathlib.Numerals.{add-one}
+use native.Mathlib.Nat.{le-refl}
+use native.Mathlib.Decide.{le-ind}
+use Rattle.line.specs.Count.{if_then_else_, count}
+
+pub if-true : {A : Type 0} {b : Bool} (u v : A) → b ≡ true → if b then u else v ≡ u
+if-true u v e = rw e
+
+pub if-false : {A : Type 0} {b : Bool} (u v : A) → b ≡ false → if b then u else v ≡ v
+if-false u v e = rw e
+
+-- ---- one station more, as a loop counts
+
+pub count-zero : (p : ℕ → Bool) → count 0 p ≡ 0
+unfolding count
+count-zero p = refl
+
+pub count-hit : (n : ℕ) (p : ℕ → Bool) → p n ≡ true → count (n + 1) p ≡ count n p + 1
+unfolding count
+count-hit n p e = rw (add-one n, e) (omega arith)
+
+pub count-miss : (n : ℕ) (p : ℕ → Bool) → p n ≡ false → count (n + 1) p ≡ count n p
+unfolding count
+count-miss n p e = rw (add-one n, e) (omega arith)
+
+pub count-le : (n : ℕ) (p : ℕ → Bool) → count n p ≤ n
+unfolding count
+count-le zero p = omega arith
+count-le (suc n) p = go (p n) (count-le n p)
+  where
+    go : (b : Bool) → count n p ≤ n → (if b then 1 else 0) + count n p ≤ suc n
+    go true h = omega arith
+    go false h = omega arith
+
+-- ---- two tests
+
+-- tests that agree below n count alike
+pub count-same : (n : ℕ) (p q : ℕ → Bool) → ((k : ℕ) → k < n → p k ≡ q k) → count n p ≡ count n q
+unfolding count
+count-same zero p q h = refl
+count-same (suc n) p q h = rw (h n (omega arith), count-same n p q (λ k l. h k (omega arith)))
+
+-- who passes p passes q or r
+pub cover : (n : ℕ) (p q r : ℕ → Bool)
+    → ((k : ℕ) → k < n → r k ≡ false → p k ≡ true → q k ≡ true) → count n p ≤ count n q + count n r
+unfolding count
+cover zero p q r h = omega arith
+cover (suc n) p q r h = go (p n) (q n) (r n) (h n (omega arith)) (cover n p q r (λ k l. h k (omega arith)))
+  where
+    go : (a b c : Bool) → (c ≡ false → a ≡ true → b ≡ true) → count n p ≤ count n q + count n r
+        → (if a then 1 else 0) + count n p ≤ (if b then 1 else 0) + count n q + ((if c then 1 else 0) + count n r)
+    go false b c g ih = omega arith
+    go true true c g ih = omega arith
+    go true false true g ih = omega arith
+    go true false false g ih = absurd (true≢false (sym (g refl refl)))
+
+pub count-none : (n : ℕ) → count n (λ k. false) ≡ 0
+unfolding count
+count-none zero = refl
+count-none (suc n) = omega (arith, count-none n)
+
+-- who passes p passes q
+pub mono : (n : ℕ) (p q : ℕ → Bool) → ((k : ℕ) → k < n → p k ≡ true → q k ≡ true) → count n p ≤ count n q
+mono n p q h = omega (arith, count-none n, cover n p q (λ k. false) (λ k l _. h k l))
+
+-- nobody passes both
+pub disjoint : (n : ℕ) (p q : ℕ → Bool) → ((k : ℕ) → k < n → p k ≡ true → q k ≡ true → ⊥) → count n p + count n q ≤ n
+unfolding count
+disjoint zero p q h = omega arith
+disjoint (suc n) p q h = go (p n) (q n) (h n (omega arith)) (disjoint n p q (λ k l. h k (omega arith)))
+  where
+    go : (a b : Bool) → (a ≡ true → b ≡ true → ⊥) → count n p + count n q ≤ n
+        → (if a then 1 else 0) + count n p + ((if b then 1 else 0) + count n q) ≤ suc n
+    go false false g ih = omega arith
+    go false true g ih = omega arith
+    go true false g ih = omega arith
+    go true true g ih = absurd (g refl refl)
+
+-- everybody passes p or fails it
+pub count-not : (n : ℕ) (p : ℕ → Bool) → count n (λ k. not (p k)) + count n p ≡ n
+unfolding count
+count-not zero p = refl
+count-not (suc n) p = go (p n) (count-not n p)
+  where
+    go : (b : Bool) → count n (λ k. not (p k)) + count n p ≡ n
+        → (if not b then 1 else 0) + count n (λ k. not (p k)) + ((if b then 1 else 0) + count n p) ≡ suc n
+    go true ih = omega arith
+    go false ih = omega arith
+
+-- ---- two numbers of stations
+
+pub widen : (m n : ℕ) (p : ℕ → Bool) → m ≤ n → count m p ≤ count n p
+unfolding count
+widen m n p h = le-ind (λ (k : ℕ). count m p ≤ count k p) (le-refl (count m p)) (λ k l ih. omega arith) n h
+
+-- not all of the first m pass: one of them fails
+pub witness : (m : ℕ) (p : ℕ → Bool) → count m p < m → (k : ℕ) × (k < m) × (p k ≡ false)
+unfolding count
+witness zero p h = absurd (omega arith)
+witness (suc m) p h = go (p m) refl h (witness m p)
+  where
+    go : (b : Bool) → p m ≡ b → (if b then 1 else 0) + count m p < suc m
+        → (count m p < m → (k : ℕ) × (k < m) × (p k ≡ false)) → (k : ℕ) × (k < suc m) × (p k ≡ false)
+    go false e l ih = (m, omega arith, e)
+    go true e l ih = let w = ih (omega arith) in (w .0, omega arith, w .2)

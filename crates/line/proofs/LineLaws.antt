@@ -1,0 +1,47 @@
+-- Laws of the line's lengths and places. Assumes nothing.
+use Prim.Native.Nat.{ℕ, _+_, _-_, _*_, _/_, _%_, _^_, _≤_, _<_}
+use mathlib.Core.Path.{_≡_, refl, ap, _∙_}
+use native.Mathlib.Omega.{arith}
+use native.Mathlib.Nat.{mul-le-mul, lt-of-le-of-lt}
+use lib.Dec.{T, ltb, lit<}
+use mir.Syntax.{w64}
+use mir.Val.{Fits as FitsWord}
+use lib.Arith.{digits-lt, digits-div, digits-mod}
+use Rattle.line.specs.Line.{Fits, rounds, table-length, place, largest-table}
+
+-- ---- products
+
+-- a product fits 64 bits where the product of the factors' bounds does
+pub product-fits : {a b p q : ℕ} → a ≤ p → b ≤ q → T (ltb (p * q) (2 ^ 64)) → FitsWord w64 (a * b)
+product-fits h k t = record { fits = lt-of-le-of-lt (mul-le-mul h k) (lit< t) }
+
+-- ---- the largest table
+
+-- no accepted line has a longer table
+pub table-bound : (n t T : ℕ) → n ≤ 32 → Fits n t T → table-length n t ≤ largest-table
+table-bound n t T h fits =
+    let r : rounds t ≤ 36 = omega (arith, fits) in
+    mul-le-mul (mul-le-mul r h) h
+
+-- and one has it
+pub table-reached : Fits 32 10 10 × (table-length 32 10 ≡ largest-table)
+table-reached = (record { order = omega arith; room = omega arith }, refl)
+
+-- ---- a byte's place tells its round, sender and receiver
+
+module _ (n r i j : ℕ) (hr : 1 ≤ r) (hi : i < n) (hj : j < n) where
+  pub place-below : (m : ℕ) → r ≤ m → place n r i j < m * n * n
+  unfolding place
+  place-below m h = digits-lt (digits-lt (let g : r - 1 < m = omega arith in g) hi) hj
+
+  pub place-round : place n r i j / n / n + 1 ≡ r
+  unfolding place
+  place-round = rw (digits-div ((r - 1) * n + i) hj, digits-div (r - 1) hi) (omega arith)
+
+  pub place-from : place n r i j / n % n ≡ i
+  unfolding place
+  place-from = rw (digits-div ((r - 1) * n + i) hj, digits-mod (r - 1) hi)
+
+  pub place-to : place n r i j % n ≡ j
+  unfolding place
+  place-to = digits-mod ((r - 1) * n + i) hj

@@ -1,0 +1,70 @@
+-- Laws of marks. Assumes nothing.
+use Prim.Native.Nat.{ℕ, zero, suc, _+_, _*_, _/_, _%_, _^_, _≤_, _<_}
+use mathlib.Core.Path.{_≡_, refl, sym, ap, _∙_}
+use mathlib.Core.Bool.{Bool, true, false}
+use mathlib.Core.Logic.{_⊎_, inl, inr, _↔_}
+use native.Mathlib.Omega.{arith}
+use native.Mathlib.Nat.{div-eq-of-lt, le-div-iff-mul-le, lt-of-lt-of-le, lt-of-not-le}
+use lib.Dec.{leb, eqb}
+use lib.Pow.{pow-pos, pow-mono, shr-shr}
+use lib.Arith.{bin-ind}
+use borrow.Author.Tests.{leb-true, leb-false, le-leb, lt-leb, eq-eqb}
+use Rattle.line.specs.Marks.{marked}
+use Rattle.line.specs.Header.{mark-beyond}
+
+-- a bit above all that are 1 is no mark
+pub marked-above : (marks i : ℕ) → marks < 2 ^ i → marked marks i ≡ false
+unfolding marked
+marked-above marks i h = rw (div-eq-of-lt h)
+
+pub marked-above-width : (marks i w : ℕ) → w ≤ i → marks < 2 ^ w → marked marks i ≡ false
+marked-above-width marks i w h l = marked-above marks i (lt-of-lt-of-le l (pow-mono h))
+
+-- a number above 0 has a bit that is 1
+some-bit : (m : ℕ) → 0 < m → (k : ℕ) × (m / 2 ^ k % 2 ≡ 1)
+some-bit = bin-ind (λ (m : ℕ). 0 < m → (k : ℕ) × (m / 2 ^ k % 2 ≡ 1)) (λ h. absurd (omega arith)) step
+  where
+    lowest : (m : ℕ) → (m % 2 ≡ 0) ⊎ (m % 2 ≡ 1)
+    lowest m = go (m % 2) refl
+      where
+        go : (r : ℕ) → m % 2 ≡ r → (m % 2 ≡ 0) ⊎ (m % 2 ≡ 1)
+        go zero e = inl e
+        go (suc zero) e = inr e
+        go (suc (suc r)) e = absurd (omega arith)
+
+    step : (m : ℕ) → (0 < m / 2 → (k : ℕ) × (m / 2 / 2 ^ k % 2 ≡ 1)) → 0 < m → (k : ℕ) × (m / 2 ^ k % 2 ≡ 1)
+    step m ih h = go (lowest m)
+      where
+        go : (m % 2 ≡ 0) ⊎ (m % 2 ≡ 1) → (k : ℕ) × (m / 2 ^ k % 2 ≡ 1)
+        go (inr e) = (0, omega arith)
+        go (inl e) = let (k, b) = ih (omega arith) in (1 + k, rw (← shr-shr m 1 k) b)
+
+-- no mark beyond station n: every station from n on is unmarked
+pub beyond-none : (n marks i : ℕ) → mark-beyond n marks ≡ false → n ≤ i → marked marks i ≡ false
+unfolding mark-beyond
+beyond-none n marks i e h = marked-above marks i (lt-of-lt-of-le (leb-false (2 ^ n) marks e) (pow-mono h))
+
+-- a mark beyond station n: some station from n on is marked
+pub beyond-some : (n marks : ℕ) → mark-beyond n marks ≡ true → (i : ℕ) × (n ≤ i) × (marked marks i ≡ true)
+unfolding mark-beyond marked
+beyond-some n marks e =
+    let h : 1 * 2 ^ n ≤ marks = omega (arith, leb-true (2 ^ n) marks e) in
+    let (k, b) = some-bit (marks / 2 ^ n) (le-div-iff-mul-le (pow-pos n) .1 h) in
+    (n + k, omega arith, eq-eqb (marks / 2 ^ (n + k) % 2) 1 (rw (← shr-shr marks n k) b))
+
+-- as code tells it: what is left of the marks after n bits is no 0
+pub beyond-shift : (n marks : ℕ) → mark-beyond n marks ≡ leb 1 (marks / 2 ^ n)
+unfolding mark-beyond
+beyond-shift n marks = go (leb (2 ^ n) marks) refl
+  where
+    iff : (1 ≤ marks / 2 ^ n) ↔ (1 * 2 ^ n ≤ marks)
+    iff = le-div-iff-mul-le (pow-pos n)
+
+    go : (b : Bool) → leb (2 ^ n) marks ≡ b → b ≡ leb 1 (marks / 2 ^ n)
+    go true e = sym (le-leb 1 (marks / 2 ^ n) (iff .1 (omega (arith, leb-true (2 ^ n) marks e))))
+    go false e = sym (lt-leb 1 (marks / 2 ^ n) (lt-of-not-le (λ h. omega (arith, iff .0 h, leb-false (2 ^ n) marks e))))
+
+-- a number of w bits has none from n on, where n is at least w
+pub beyond-above : (n marks w : ℕ) → w ≤ n → marks < 2 ^ w → mark-beyond n marks ≡ false
+unfolding mark-beyond
+beyond-above n marks w h l = lt-leb (2 ^ n) marks (lt-of-lt-of-le l (pow-mono h))

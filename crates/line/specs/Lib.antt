@@ -1,0 +1,7 @@
+-- The line of stations (document 01, "Names" and "Refused causes"), in the document's order. Nothing is proved here; the laws are in proofs/.
+pub mod Count
+pub mod Line
+pub mod Marks
+pub mod Ballot
+pub mod Cause
+pub mod Header

@@ -1,0 +1,36 @@
+-- The line of n stations with the thresholds t and T (document 01, "Names").
+-- In every definition stations are counted from 0: station i is the document's station i + 1. Rounds are numbered from 1, as in the document.
+use Prim.Native.Nat.{ℕ, _+_, _-_, _*_, _≤_, _<_}
+
+-- "n: stations, 1 to 32."
+abbrev pub most-stations : ℕ
+most-stations = 32
+
+-- "t and T: thresholds, t at most T, t + 2T below n."
+pub record Fits (n t T : ℕ) : Type 0 where
+  pub order : t ≤ T
+  pub room : t + 2 * T < n
+
+-- "R = 3t + 6 rounds."
+abbrev pub rounds : ℕ → ℕ
+rounds t = 3 * t + 6
+
+-- "A run table has R·n·n bytes"
+abbrev pub table-length : ℕ → ℕ → ℕ
+table-length n t = rounds t * n * n
+
+-- "the byte for round r, from i, to j stands at ((r−1)·n + (i−1))·n + (j−1)": i and j are counted from 0 here
+unfoldable pub place : ℕ → ℕ → ℕ → ℕ → ℕ
+place n r i j = ((r - 1) * n + i) * n + j
+
+-- "The largest has 36,864 bytes."
+abbrev pub largest-table : ℕ
+largest-table = 36864
+
+-- "a ballot table of 2·n·n bytes laid out like a run table": that of one graded exchange
+abbrev pub exchange-length : ℕ → ℕ
+exchange-length n = 2 * n * n
+
+-- "An outcome is three bytes a station"
+abbrev pub outcomes-length : ℕ → ℕ
+outcomes-length n = 3 * n

@@ -1,0 +1,90 @@
+// The judgement of a header's numbers: causes 2 to 6, the lowest first.
+ghost use mathlib.Core.Path.{_≡_};
+ghost use Rattle.line.specs.Header.{outside, exceeded, mark-beyond, station-count, thresholds, station-number, bit, marks-within, line-verdict, header-verdict};
+use crate::Line;
+use crate::cause::Cause;
+use crate::cause::Verdict;
+
+fn outside(low: u8, high: u8, x: u8) -> bool
+    ensures { λ r. ⌜ r ≡ outside low high x ⌝ }
+{
+    if x < low {
+        return true;
+    }
+    high < x
+}
+
+// t above T, or t + 2T not below n. The sum is computed in 16 bits, where it never wraps.
+fn exceeded(n: u8, t: u8, upper: u8) -> bool
+    ensures { λ r. ⌜ r ≡ exceeded n t upper ⌝ }
+{
+    if upper < t {
+        return true;
+    }
+    (n as u16) <= (t as u16) + 2 * (upper as u16)
+}
+
+fn mark_beyond(n: u8, marks: u32) -> bool
+    ensures { λ r. ⌜ r ≡ mark-beyond n marks ⌝ }
+{
+    if n < 32 {
+        return 1 <= marks >> n;
+    }
+    false
+}
+
+// Cause 2.
+pub fn station_count(n: u8) -> Verdict
+    ensures { λ r. ⌜ r ≡ station-count n ⌝ }
+{
+    Verdict::refused_if(outside(1, Line::STATIONS, n), Cause::StationCount)
+}
+
+// Cause 3.
+pub fn thresholds(n: u8, t: u8, upper: u8) -> Verdict
+    ensures { λ r. ⌜ r ≡ thresholds n t upper ⌝ }
+{
+    Verdict::refused_if(exceeded(n, t, upper), Cause::Thresholds)
+}
+
+// Cause 4, of the sender or the own station.
+pub fn station_number(n: u8, i: u8) -> Verdict
+    ensures { λ r. ⌜ r ≡ station-number n i ⌝ }
+{
+    Verdict::refused_if(outside(1, n, i), Cause::StationNumber)
+}
+
+// Cause 5, of one byte.
+pub fn bit(v: u8) -> Verdict
+    ensures { λ r. ⌜ r ≡ bit v ⌝ }
+{
+    Verdict::refused_if(1 < v, Cause::Value)
+}
+
+// Cause 6.
+pub fn marks_within(n: u8, marks: u32) -> Verdict
+    ensures { λ r. ⌜ r ≡ marks-within n marks ⌝ }
+{
+    Verdict::refused_if(mark_beyond(n, marks), Cause::MarkBeyond)
+}
+
+// Causes 2 and 3.
+pub fn line_verdict(line: Line) -> Verdict
+    ensures { λ r. ⌜ r ≡ line-verdict (line .n) (line .t) (line .upper) ⌝ }
+{
+    let a = station_count(line.n);
+    let b = thresholds(line.n, line.t, line.upper);
+    a.or_else(b)
+}
+
+// Causes 2 to 6.
+pub fn header_verdict(line: Line, sender: u8, value: u8, marks: u32) -> Verdict
+    ensures { λ r. ⌜ r ≡ header-verdict (line .n) (line .t) (line .upper) sender value marks ⌝ }
+{
+    let a = station_count(line.n);
+    let b = thresholds(line.n, line.t, line.upper);
+    let c = station_number(line.n, sender);
+    let d = bit(value);
+    let e = marks_within(line.n, marks);
+    a.or_else(b.or_else(c.or_else(d.or_else(e))))
+}

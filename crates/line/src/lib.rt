@@ -1,0 +1,60 @@
+// The line of stations: its type with what follows from n, t and T, the readings of a ballot byte, marks, and the causes of refusal.
+ghost use mathlib.Core.Path.{_≡_};
+ghost use Rattle.line.specs.Line.{rounds, table-length, exchange-length, outcomes-length};
+
+pub mod ballot;
+pub mod cause;
+pub mod header;
+pub mod marks;
+
+// A line of n stations with the thresholds t and T (document 01, "Names"). T is called upper here, since a field that differs from t
+// by its case alone is refused. Any bytes at all may stand in it: header::line judges them.
+pub struct Line {
+    pub n: u8,
+    pub t: u8,
+    pub upper: u8,
+}
+
+impl Line {
+    // The most stations that a line has.
+    pub const STATIONS: u8 = 32;
+
+    // The ballot byte blank.
+    pub const BLANK: u8 = 2;
+
+    // The ballot byte silence.
+    pub const SILENCE: u8 = 255;
+
+    // The longest run table of any accepted line, in bytes.
+    pub const LARGEST_TABLE: usize = 36864;
+
+    // R, the rounds of a broadcast.
+    pub fn rounds(self) -> usize
+        ensures { λ r. ⌜ r ≡ rounds (self .t) ⌝ }
+    {
+        3 * (self.t as usize) + 6
+    }
+
+    // The bytes of a run table, and of a log.
+    pub fn table_len(self) -> usize
+        ensures { λ r. ⌜ r ≡ table-length (self .n) (self .t) ⌝ }
+    {
+        let n = self.n as usize;
+        (3 * (self.t as usize) + 6) * n * n
+    }
+
+    // The bytes of a ballot table for one graded exchange.
+    pub fn exchange_len(self) -> usize
+        ensures { λ r. ⌜ r ≡ exchange-length (self .n) ⌝ }
+    {
+        let n = self.n as usize;
+        2 * n * n
+    }
+
+    // The bytes of all outcomes.
+    pub fn outcomes_len(self) -> usize
+        ensures { λ r. ⌜ r ≡ outcomes-length (self .n) ⌝ }
+    {
+        3 * (self.n as usize)
+    }
+}
