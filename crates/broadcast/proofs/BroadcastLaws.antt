@@ -1,0 +1,120 @@
+-- Demand 3 of the broadcast, from Definition 6 of its exchanges. The argument is that of source 001, Theorem 1. Assumes nothing.
+use Prim.Native.Nat.{ℕ, zero, suc, _+_, _≤_, _<_}
+use mathlib.Core.Path.{_≡_, refl, sym, ap, _∙_}
+use mathlib.Core.Logic.{_⊎_, inl, inr}
+use mathlib.Core.Bool.{false}
+use native.Mathlib.Omega.{arith}
+use native.Mathlib.Decide.{le-ind}
+use native.Mathlib.Nat.{lt-of-not-le, le-of-eq, le-antisymm, eq-zero-or-pos}
+use Rattle.line.specs.Line.{Fits}
+use Rattle.line.specs.Ballot.{read-sender}
+use Rattle.line.proofs.CountLaws.{widen, witness}
+use Rattle.line.proofs.BallotLaws.{read-sender-bit, read-sender-keeps}
+use Rattle.broadcast.specs.Exchange.{Setting, sends, flag-of}
+use Rattle.broadcast.specs.Broadcast.{obey, first-round, x-after, y-after, grade-after, value-of, final-grade, final-flag}
+use Rattle.broadcast.specs.Guarantees.{Good, GradedConsensus, TwoThreshold}
+use Rattle.broadcast.proofs.TallyLaws.{flag-0, flag-1, obey-bit, obey-own, obey-king}
+use Rattle.broadcast.proofs.ExchangeLaws.{faults-of, All, good-sends, y-is-bit, graded-consensus}
+
+module _ (S : Setting) (fits : Fits (S .n) (S .t) (S .T)) (sender value : ℕ) where
+  X : ℕ → ℕ → ℕ
+  X = x-after S sender value
+
+  Y : ℕ → ℕ → ℕ
+  Y = y-after S sender value
+
+  G : ℕ → ℕ → ℕ
+  G = grade-after S sender value
+
+  Y-bit : (p j : ℕ) → Y p j ≤ 1
+  unfolding Y y-after
+  Y-bit p j = y-is-bit S (first-round p) (x-after S sender value p) j
+
+  -- what a phase does
+  phase : (p j : ℕ) → X (suc p) j ≡ obey (G p j) (Y p j) (sends S (first-round p + 2) p j (Y p p))
+  unfolding X Y G x-after y-after grade-after
+  phase p j = refl
+
+  X-bit : (p j : ℕ) → X p j ≤ 1
+  unfolding X x-after
+  X-bit zero j = read-sender-bit _
+  X-bit (suc p) j = rw (phase p j) (obey-bit (G p j) (Y p j) _ (Y-bit p j))
+
+  -- the exchange that p phases precede
+  exchange : (p : ℕ) → GradedConsensus (S .n) (S .t) (S .T) (S .bad) (X p) (Y p) (G p)
+  unfolding X Y G y-after grade-after
+  exchange p = graded-consensus S fits (first-round p) (X p) (λ i g. X-bit p i)
+
+  -- ---- what all good stations have they keep through every later phase, whatever the kings send
+
+  keep : (v : ℕ) → faults-of S ≤ S .T → (p : ℕ) → All S (X p) v → All S (X (suc p)) v
+  keep v f p all j g =
+      let (same, graded) = exchange p .validity f v all j g in rw (phase p j) (obey-own (G p j) (Y p j) _ graded ∙ same)
+
+  keep-to : (v : ℕ) → faults-of S ≤ S .T → (p : ℕ) → All S (X p) v → (q : ℕ) → p ≤ q → All S (X q) v
+  keep-to v f p all q l = le-ind (λ (m : ℕ). All S (X m) v) all (λ m _ ih. keep v f m ih) q l
+
+  -- ---- a good king: with f at most t, all good stations come to have its y
+
+  good-king : faults-of S ≤ S .t → (p : ℕ) → Good (S .n) (S .bad) p → All S (X (suc p)) (Y p p)
+  good-king f p king j g =
+      rw (phase p j, good-sends S (first-round p + 2) p j (Y p p) (king .1)) (go (eq-zero-or-pos (G p j)))
+    where
+      go : (G p j ≡ 0) ⊎ (0 < G p j) → obey (G p j) (Y p j) (Y p p) ≡ Y p p
+      go (inl e) = rw e (obey-king (Y p j) (Y p p) (Y-bit p p))
+      go (inr e) = obey-own (G p j) (Y p j) _ e ∙ sym (exchange p .detection-at-t f j g e p king)
+
+  -- one of the t + 1 kings is good, so all good stations have the same after all phases
+  settled : faults-of S ≤ S .t → (v : ℕ) × All S (X (S .t + 1)) v
+  settled f =
+      let (p, l, good) = witness (S .t + 1) (S .bad) (omega (arith, fits, widen (S .t + 1) (S .n) (S .bad) (omega (arith, fits)))) in
+      let king : Good (S .n) (S .bad) p = (omega (arith, fits), good) in
+      (Y p p, keep-to (Y p p) (omega (arith, fits)) (suc p) (good-king f p king) (S .t + 1) (omega arith))
+
+  -- ---- a good sender's value is taken in round 1 and kept
+
+  started : value ≤ 1 → S .bad sender ≡ false → All S (X 0) value
+  unfolding X x-after
+  started bit good j g = ap read-sender (good-sends S 1 sender j value good) ∙ read-sender-keeps value bit
+
+  -- ---- the last exchange
+
+  decides : ℕ → ℕ
+  decides = value-of S sender value
+
+  flags : ℕ → ℕ
+  flags = final-flag S sender value
+
+  last : GradedConsensus (S .n) (S .t) (S .T) (S .bad) (X (S .t + 1)) decides (final-grade S sender value)
+  unfolding decides value-of final-grade Y G
+  last = exchange (S .t + 1)
+
+  flag-is : (j : ℕ) → flags j ≡ flag-of (final-grade S sender value j)
+  unfolding flags final-flag
+  flag-is j = refl
+
+  -- f at most t: one value, and no flag
+  agreed : faults-of S ≤ S .t → (v : ℕ) × All S decides v
+  agreed f = let (v, all) = settled f in (v, λ j g. last .validity-at-t f v all j g .0)
+
+  quiet : faults-of S ≤ S .t → (i : ℕ) → Good (S .n) (S .bad) i → flags i ≡ 0
+  quiet f i g =
+      let (v, all) = settled f in flag-is i ∙ flag-0 _ (le-of-eq (sym (last .validity-at-t f v all i g .1)))
+
+  -- f at most T: a good station without a flag has grade 2, which binds all
+  bound-by : faults-of S ≤ S .T → (k : ℕ) → Good (S .n) (S .bad) k → 2 ≤ final-grade S sender value k → All S decides (decides k)
+  bound-by f k g h = last .detection f k g (le-antisymm (last .range k g .1) h)
+
+  pub two-threshold : value ≤ 1
+      → TwoThreshold (S .n) (S .t) (S .T) (S .bad) sender value (value-of S sender value) (final-flag S sender value)
+  unfolding decides flags
+  two-threshold bit = record {
+    agreement = λ f i j gi gj. let (v, all) = agreed f in all i gi ∙ sym (all j gj);
+    no-flag = quiet;
+    extended-validity = λ f gs i gi.
+        last .validity f value (keep-to value f 0 (started bit (gs .1)) (S .t + 1) (omega arith)) i gi .0;
+    consistency-detection = λ f i j gi gj differ k gk.
+        flag-is k
+        ∙ flag-1 _ (lt-of-not-le (λ h. differ (bound-by f k gk h i gi ∙ sym (bound-by f k gk h j gj))));
+    flag-soundness = λ i gi e. lt-of-not-le (λ f. omega (arith, quiet f i gi));
+  }

@@ -1,0 +1,171 @@
+-- Logs and outcomes as bytes: what stands where, and the guarantees said of the bytes. Assumes nothing.
+use Prim.Native.Nat.{ℕ, zero, suc, _+_, _-_, _*_, _/_, _%_, _≤_, _<_}
+use mathlib.Core.Path.{_≡_, refl, sym, ap, _∙_}
+use mathlib.Core.Bool.{Bool, true, false}
+use mathlib.Core.List.{List, [], _∷_}
+use native.Mathlib.Omega.{arith}
+use lib.Dec.{eqb}
+use lib.ListN.{length, getD}
+use Rattle.line.specs.Count.{if_then_else_}
+use Rattle.line.specs.Line.{Fits, rounds, table-length, outcomes-length, place}
+use Rattle.line.specs.Marks.{marked}
+use Rattle.line.proofs.CountLaws.{if-true, if-false}
+use Rattle.line.proofs.LineLaws.{place-below, place-round, place-from, place-to}
+use Rattle.broadcast.specs.Exchange.{Setting, y, grade, flag-of}
+use Rattle.broadcast.specs.Broadcast.{value-of, final-grade, final-flag, y-after, grade-after, first-round, x-after, sent}
+use Rattle.broadcast.specs.Station.{at}
+use Rattle.broadcast.specs.Bytes.{tabulate, setting, outcome-byte, outcome-bytes, exchange-outcomes, Run, setting-of, sender-of, log-byte, log, outcomes, column}
+use Rattle.broadcast.specs.Guarantees.{Good, GradedConsensus, TwoThreshold}
+use Rattle.broadcast.specs.Theorems.{value-at, grade-at, flag-at, Definition-6-alone, LogBytes, Log-bytes, OutcomeBytes, Outcome-bytes, Demand-3}
+use Rattle.broadcast.proofs.TallyLaws.{y-bit, grade-bound}
+use Rattle.broadcast.proofs.ExchangeLaws.{y-is-bit, graded-consensus}
+use Rattle.broadcast.proofs.BroadcastLaws.{two-threshold}
+
+-- ---- a tabulated list
+
+pub length-tabulate : (m : ℕ) (f : ℕ → ℕ) → length (tabulate m f) ≡ m
+unfolding tabulate
+length-tabulate zero f = refl
+length-tabulate (suc m) f = ap suc (length-tabulate m (λ k. f (suc k)))
+
+getD-tabulate : (m : ℕ) (f : ℕ → ℕ) (k : ℕ) → k < m → getD (tabulate m f) k 0 ≡ f k
+unfolding tabulate
+getD-tabulate zero f k h = absurd (omega arith)
+getD-tabulate (suc m) f zero h = refl
+getD-tabulate (suc m) f (suc k) h = getD-tabulate m (λ i. f (suc i)) k (omega arith)
+
+pub at-tabulate : (m : ℕ) (f : ℕ → ℕ) (k : ℕ) → k < m → at (tabulate m f) k ≡ f k
+unfolding at
+at-tabulate = getD-tabulate
+
+pub tabulate-same : (m : ℕ) (f g : ℕ → ℕ) → ((k : ℕ) → k < m → f k ≡ g k) → tabulate m f ≡ tabulate m g
+unfolding tabulate
+tabulate-same zero f g h = refl
+tabulate-same (suc m) f g h =
+    rw (h 0 (omega arith), tabulate-same m (λ k. f (suc k)) (λ k. g (suc k)) (λ k l. h (suc k) (omega arith)))
+
+-- ---- the log
+
+pub log-size : (R : Run) → length (log R) ≡ table-length (R .n) (R .t)
+unfolding log
+log-size R = length-tabulate _ _
+
+pub log-at : (R : Run) (r i j : ℕ) → 1 ≤ r → r ≤ rounds (R .t) → i < R .n → j < R .n
+    → at (log R) (place (R .n) r i j) ≡ sent (setting-of R) (sender-of R) (R .value) r i j
+unfolding log log-byte
+log-at R r i j h l hi hj =
+    at-tabulate _ _ _ (place-below (R .n) r i j h hi hj (rounds (R .t)) l)
+    ∙ rw (place-round (R .n) r i j h hi hj, place-from (R .n) r i j h hi hj, place-to (R .n) r i j h hi hj)
+
+pub log-bytes : Log-bytes
+log-bytes R = record { size = log-size R; byte = log-at R }
+
+-- a station's row of bytes laid out like a table
+pub column-at : (n : ℕ) (bytes : List ℕ) (j r i : ℕ) → i < n → at (column n bytes j r) i ≡ at bytes (place n r i j)
+unfolding column
+column-at n bytes j r i h = at-tabulate n _ i h
+
+-- ---- outcomes
+
+module _ (S : Setting) (v g f : ℕ → ℕ) where
+  pub outcome-size : length (outcome-bytes S v g f) ≡ outcomes-length (S .n)
+  unfolding outcome-bytes
+  outcome-size = length-tabulate _ _
+
+  -- byte d, which is 0, 1 or 2, of station i
+  triple : (i d : ℕ) → i < S .n → d < 3
+      → at (outcome-bytes S v g f) (3 * i + d) ≡ (if S .bad i then 255 else (if eqb d 0 then v i else (if eqb d 1 then g i else f i)))
+  unfolding outcome-bytes outcome-byte
+  triple i d h l =
+      let m : (3 * i + d) % 3 ≡ d = omega arith in
+      let q : (3 * i + d) / 3 ≡ i = omega arith in
+      at-tabulate _ _ _ (omega arith) ∙ simp (m, q)
+
+  value-byte : (i : ℕ) → i < S .n → value-at (outcome-bytes S v g f) i ≡ (if S .bad i then 255 else v i)
+  value-byte i h = let e : 3 * i ≡ 3 * i + 0 = omega arith in rw e (triple i 0 h (omega arith))
+
+  pub good-value : (i : ℕ) → Good (S .n) (S .bad) i → value-at (outcome-bytes S v g f) i ≡ v i
+  good-value i h = value-byte i (h .0) ∙ if-false _ _ (h .1)
+
+  pub good-grade : (i : ℕ) → Good (S .n) (S .bad) i → grade-at (outcome-bytes S v g f) i ≡ g i
+  good-grade i h = triple i 1 (h .0) (omega arith) ∙ if-false _ _ (h .1)
+
+  pub good-flag : (i : ℕ) → Good (S .n) (S .bad) i → flag-at (outcome-bytes S v g f) i ≡ f i
+  good-flag i h = triple i 2 (h .0) (omega arith) ∙ if-false _ _ (h .1)
+
+  outcome-ranges : ((i : ℕ) → v i ≤ 1) → ((i : ℕ) → g i ≤ 2) → ((i : ℕ) → f i ≡ flag-of (g i))
+      → OutcomeBytes (S .n) (S .bad) (outcome-bytes S v g f)
+  outcome-ranges hv hg hf = record {
+    size = outcome-size;
+    good = λ i h. (rw (good-value i h) (hv i), rw (good-grade i h) (hg i), rw (good-flag i h, good-grade i h) (hf i));
+    marked-value = λ i h b. value-byte i h ∙ if-true _ _ b;
+    marked-grade = λ i h b. triple i 1 h (omega arith) ∙ if-true _ _ b;
+    marked-flag = λ i h b. triple i 2 h (omega arith) ∙ if-true _ _ b;
+  }
+
+-- outcomes that agree at the good stations are the same bytes
+pub outcomes-same : (S S′ : Setting) (v g f v′ g′ f′ : ℕ → ℕ) → S′ .n ≡ S .n → ((i : ℕ) → S′ .bad i ≡ S .bad i)
+    → ((i : ℕ) → Good (S .n) (S .bad) i → (v i ≡ v′ i) × (g i ≡ g′ i) × (f i ≡ f′ i))
+    → outcome-bytes S v g f ≡ outcome-bytes S′ v′ g′ f′
+unfolding outcome-bytes outcome-byte
+outcomes-same S S′ v g f v′ g′ f′ en eb h =
+    rw en
+    (tabulate-same (outcomes-length (S .n)) _ _
+    (λ k l. rw (eb (k / 3)) (go (k / 3) (k % 3) (S .bad (k / 3)) refl (omega arith))))
+  where
+    go : (i d : ℕ) (b : Bool) → S .bad i ≡ b → i < S .n
+        → (if b then 255 else (if eqb d 0 then v i else (if eqb d 1 then g i else f i)))
+        ≡ (if b then 255 else (if eqb d 0 then v′ i else (if eqb d 1 then g′ i else f′ i)))
+    go i d true e l = refl
+    go i d false e l = let (a, b, c) = h i (l, e) in rw (a, b, c)
+
+-- ---- the guarantees hold of whatever agrees at the good stations
+
+same-consensus : (n t T : ℕ) (bad : ℕ → Bool) (x y g y′ g′ : ℕ → ℕ)
+    → ((i : ℕ) → Good n bad i → y′ i ≡ y i) → ((i : ℕ) → Good n bad i → g′ i ≡ g i)
+    → GradedConsensus n t T bad x y g → GradedConsensus n t T bad x y′ g′
+same-consensus n t T bad x y g y′ g′ ey eg C = record {
+  range = λ i h. rw (ey i h, eg i h) (C .range i h);
+  validity = λ f v all i h. rw (ey i h, eg i h) (C .validity f v all i h);
+  validity-at-t = λ f v all i h. rw (ey i h, eg i h) (C .validity-at-t f v all i h);
+  detection-at-t = λ f i h l j k. rw (ey i h, ey j k) (C .detection-at-t f i h (rw (eg i h) at l) j k);
+  detection = λ f i h l j k. rw (ey i h, ey j k) (C .detection f i h (rw (eg i h) at l) j k);
+}
+
+same-two-threshold : (n t T : ℕ) (bad : ℕ → Bool) (s v : ℕ) (D F D′ F′ : ℕ → ℕ)
+    → ((i : ℕ) → Good n bad i → D′ i ≡ D i) → ((i : ℕ) → Good n bad i → F′ i ≡ F i)
+    → TwoThreshold n t T bad s v D F → TwoThreshold n t T bad s v D′ F′
+same-two-threshold n t T bad s v D F D′ F′ d f P = record {
+  agreement = λ k i j gi gj. rw (d i gi, d j gj) (P .agreement k i j gi gj);
+  no-flag = λ k i gi. rw (f i gi) (P .no-flag k i gi);
+  extended-validity = λ k gs i gi. rw (d i gi) (P .extended-validity k gs i gi);
+  consistency-detection = λ k i j gi gj ne m gm.
+      rw (f m gm) (P .consistency-detection k i j gi gj (λ e. ne (d i gi ∙ e ∙ sym (d j gj))) m gm);
+  flag-soundness = λ i gi e. P .flag-soundness i gi (sym (f i gi) ∙ e);
+}
+
+-- ---- of the bytes
+
+pub definition-6-alone : Definition-6-alone
+unfolding exchange-outcomes setting
+definition-6-alone n t T marks inputs table fits bits =
+    let S = setting n t T marks table in
+    same-consensus n t T (marked marks) (at inputs) _ _ _ _
+    (good-value S (y S 1 (at inputs)) (grade S 1 (at inputs)) _)
+    (good-grade S (y S 1 (at inputs)) (grade S 1 (at inputs)) _)
+    (graded-consensus S fits 1 (at inputs) bits)
+
+pub demand-3 : Demand-3
+unfolding outcomes setting
+demand-3 R fits bit =
+    same-two-threshold (R .n) (R .t) (R .T) (marked (R .marks)) (sender-of R) (R .value) _ _ _ _
+    (good-value (setting-of R) _ _ _) (good-flag (setting-of R) _ _ _)
+    (two-threshold (setting-of R) fits (sender-of R) (R .value) bit)
+
+pub outcome-bytes-of : Outcome-bytes
+unfolding outcomes setting value-of final-grade final-flag y-after grade-after grade
+outcome-bytes-of R =
+    let S = setting-of R in
+    let p = R .t + 1 in
+    let x = x-after S (sender-of R) (R .value) p in
+    outcome-ranges S _ _ _ (λ i. y-is-bit S (first-round p) x i) (λ i. grade-bound (R .n) (R .t) (R .T) _) (λ i. refl)

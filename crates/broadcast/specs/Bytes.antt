@@ -1,0 +1,81 @@
+-- Tables, logs and outcomes as lists of bytes (document 01, "Names", "The graded exchange" and "The broadcast").
+use Prim.Native.Nat.{ℕ, zero, suc, _+_, _-_, _*_, _/_, _%_}
+use mathlib.Core.List.{List, [], _∷_}
+use lib.Dec.{eqb}
+use Rattle.line.specs.Count.{if_then_else_}
+use Rattle.line.specs.Line.{table-length, outcomes-length, place}
+use Rattle.line.specs.Marks.{marked}
+use Rattle.line.specs.Ballot.{silence}
+use Rattle.broadcast.specs.Exchange.{Setting, y, grade, flag-of}
+use Rattle.broadcast.specs.Broadcast.{value-of, final-grade, final-flag, sent}
+use Rattle.broadcast.specs.Station.{Setup, at}
+
+-- the list of f 0, f 1, .. f (m - 1)
+unfoldable pub tabulate : ℕ → (ℕ → ℕ) → List ℕ
+tabulate zero f = []
+tabulate (suc m) f = f 0 ∷ tabulate m (λ k. f (suc k))
+
+-- the setting that a line, its marks and a table of bytes make
+unfoldable pub setting : ℕ → ℕ → ℕ → ℕ → List ℕ → Setting
+setting n t T marks table =
+    record { n = n; t = t; T = T; bad = marked marks; table = λ r i j. at table (place n r i j) }
+
+-- "An outcome is three bytes a station: value, grade 0 to 2, flag 0 or 1. A bad station's three bytes are 255."
+unfoldable pub outcome-byte : Setting → (ℕ → ℕ) → (ℕ → ℕ) → (ℕ → ℕ) → ℕ → ℕ
+outcome-byte S value grade flag k =
+    let i = k / 3 in
+    if S .bad i then 255 else (if eqb (k % 3) 0 then value i else (if eqb (k % 3) 1 then grade i else flag i))
+
+unfoldable pub outcome-bytes : Setting → (ℕ → ℕ) → (ℕ → ℕ) → (ℕ → ℕ) → List ℕ
+outcome-bytes S value grade flag = tabulate (outcomes-length (S .n)) (outcome-byte S value grade flag)
+
+-- ---- the graded exchange had alone
+
+-- "an input byte for each station, a ballot table of 2·n·n bytes laid out like a run table [..], outcomes of which the flag is 1 when the
+-- grade is below 2": the exchange in rounds 1 and 2
+unfoldable pub exchange-outcomes : ℕ → ℕ → ℕ → ℕ → List ℕ → List ℕ → List ℕ
+exchange-outcomes n t T marks inputs table =
+    let S = setting n t T marks table in
+    let x = at inputs in
+    outcome-bytes S (y S 1 x) (grade S 1 x) (λ i. flag-of (grade S 1 x i))
+
+-- ---- the rehearsal of a broadcast
+
+-- what a rehearsal is handed, in document 01's own numbers: the sender is from 1 to n
+pub record Run : Type 0 where
+  pub n : ℕ
+  pub t : ℕ
+  pub T : ℕ
+  pub sender : ℕ
+  pub value : ℕ
+  pub marks : ℕ
+  pub table : List ℕ
+
+abbrev pub setting-of : Run → Setting
+setting-of R = setting (R .n) (R .t) (R .T) (R .marks) (R .table)
+
+-- the sender counted from 0
+abbrev pub sender-of : Run → ℕ
+sender-of R = R .sender - 1
+
+-- "The rehearsal writes a log, laid out like the table.": the byte at k is that of the round, sender and receiver whose place k is
+unfoldable pub log-byte : Run → ℕ → ℕ
+log-byte R k = let n = R .n in sent (setting-of R) (sender-of R) (R .value) (k / n / n + 1) (k / n % n) (k % n)
+
+unfoldable pub log : Run → List ℕ
+log R = tabulate (table-length (R .n) (R .t)) (log-byte R)
+
+unfoldable pub outcomes : Run → List ℕ
+outcomes R =
+    let S = setting-of R in
+    outcome-bytes S (value-of S (sender-of R) (R .value)) (final-grade S (sender-of R) (R .value)) (final-flag S (sender-of R) (R .value))
+
+-- ---- the single station in a run
+
+-- station j of a run, as it is opened
+unfoldable pub setup : Run → ℕ → Setup
+setup R j = record { n = R .n; t = R .t; T = R .T; sender = sender-of R; own = j }
+
+-- the row that station j receives in round r, where the bytes sent in all rounds are laid out like a table
+unfoldable pub column : ℕ → List ℕ → ℕ → ℕ → List ℕ
+column n bytes j r = tabulate n (λ i. at bytes (place n r i j))

@@ -1,0 +1,70 @@
+-- One station as an automaton (document 01, "One station").
+use Prim.Native.Nat.{ℕ, zero, suc, _+_}
+use mathlib.Core.List.{List}
+use lib.Dec.{eqb}
+use lib.ListN.{getD}
+use Rattle.line.specs.Count.{if_then_else_}
+use Rattle.line.specs.Line.{rounds}
+use Rattle.line.specs.Ballot.{blank, silence, read-sender}
+use Rattle.broadcast.specs.Exchange.{Row, seconds, z-of, y-of, grade-of, flag-of}
+use Rattle.broadcast.specs.Broadcast.{Part, from-sender, first-of, second-of, from-king, part, speaks, obey}
+
+-- "A station is opened with n, t, T, sender, own number and a value": what stays; sender and own are counted from 0
+pub record Setup : Type 0 where
+  pub n : ℕ
+  pub t : ℕ
+  pub T : ℕ
+  pub sender : ℕ
+  pub own : ℕ
+
+-- what changes: the current round; value, which is the value it was opened with, then x, and y from each exchange on; z; and the grade
+pub record State : Type 0 where
+  pub round : ℕ
+  pub value : ℕ
+  pub z : ℕ
+  pub grade : ℕ
+
+-- newly opened with a value. z and grade are set before they are first used
+unfoldable pub opened : ℕ → State
+opened v = record { round = 1; value = v; z = blank; grade = 0 }
+
+-- "It tells its ballot for the current round, 255 if it doesn't speak"
+unfoldable pub held : State → Part → ℕ
+held s from-sender = s .value
+held s (first-of p) = s .value
+held s (second-of p) = s .z
+held s (from-king p) = s .value
+
+unfoldable pub ballot : Setup → State → ℕ
+ballot c s = if speaks (c .sender) (part (s .round)) (c .own) then held s (part (s .round)) else silence
+
+-- "and takes a row of n received bytes to pass to the next round"
+unfoldable pub next : State → ℕ → ℕ → ℕ → State
+next s value z grade = record { round = s .round + 1; value = value; z = z; grade = grade }
+
+unfoldable pub taken : Setup → State → Row → Part → State
+taken c s row from-sender = next s (read-sender (row (c .sender))) (s .z) (s .grade)
+taken c s row (first-of p) = next s (s .value) (z-of (c .n) (c .T) (s .value) row) (s .grade)
+taken c s row (second-of p) =
+    let y = y-of (c .n) row in next s y (s .z) (grade-of (c .n) (c .t) (c .T) (seconds (c .n) y row))
+taken c s row (from-king p) = next s (obey (s .grade) (s .value) (row p)) (s .z) (s .grade)
+
+unfoldable pub advance : Setup → State → Row → State
+advance c s row = taken c s row (part (s .round))
+
+-- "Asked for its result it answers either running, with the round, or done, with value, grade and flag. It is done after exactly R accepted rows."
+pub data Result : Type 0 where
+  running : ℕ → Result
+  done : ℕ → ℕ → ℕ → Result
+
+unfoldable pub result : Setup → State → Result
+result c s = if eqb (s .round) (rounds (c .t) + 1) then done (s .value) (s .grade) (flag-of (s .grade)) else running (s .round)
+
+-- a list of bytes as a row
+unfoldable pub at : List ℕ → Row
+at bytes = λ i. getD bytes i 0
+
+-- the state of a station that was opened with v and has taken the rows of rounds 1 to m
+unfoldable pub after : Setup → ℕ → (ℕ → List ℕ) → ℕ → State
+after c v rows zero = opened v
+after c v rows (suc m) = advance c (after c v rows m) (at (rows (suc m)))

@@ -1,0 +1,141 @@
+-- The statements that proofs/Theorems.antt proves, each under the same name in lower case. Their hypotheses are document 01's, and where one
+-- of these is not needed it is left out.
+use Prim.Native.Nat.{ℕ, zero, suc, _+_, _-_, _*_, _≤_, _<_}
+use mathlib.Core.Path.{_≡_}
+use mathlib.Core.Bool.{Bool, true, false}
+use mathlib.Core.List.{List}
+use lib.ListN.{length}
+use Rattle.line.specs.Line.{Fits, rounds, table-length, outcomes-length, place}
+use Rattle.line.specs.Marks.{marked}
+use Rattle.line.specs.Ballot.{blank}
+use Rattle.broadcast.specs.Exchange.{Row, seconds, Setting, y, grade, flag-of}
+use Rattle.broadcast.specs.Broadcast.{part, speaks, sent}
+use Rattle.broadcast.specs.Station.{State, running, done, ballot, result, at, after}
+use Rattle.broadcast.specs.Bytes.{exchange-outcomes, Run, setting-of, sender-of, log, outcomes, setup, column}
+use Rattle.broadcast.specs.Guarantees.{Good, GradedConsensus, TwoThreshold}
+
+-- ---- the graded exchange
+
+-- step 4: "zeros, ones and blanks make n"
+abbrev pub Ballots-make-n : Type 0
+Ballots-make-n = (n : ℕ) (row : Row) → seconds n 0 row + seconds n 1 row + seconds n blank row ≡ n
+
+-- Definition 6 of an exchange of a whole line, in any two rounds, whatever the marked stations enter with and send
+abbrev pub Definition-6 : Type 0
+Definition-6 =
+    (S : Setting) → Fits (S .n) (S .t) (S .T) → (r : ℕ) (x : ℕ → ℕ) → ((i : ℕ) → Good (S .n) (S .bad) i → x i ≤ 1)
+    → GradedConsensus (S .n) (S .t) (S .T) (S .bad) x (y S r x) (grade S r x)
+
+-- the bytes of an outcome list at station i
+abbrev pub value-at : List ℕ → ℕ → ℕ
+value-at bytes i = at bytes (3 * i)
+
+abbrev pub grade-at : List ℕ → ℕ → ℕ
+grade-at bytes i = at bytes (3 * i + 1)
+
+abbrev pub flag-at : List ℕ → ℕ → ℕ
+flag-at bytes i = at bytes (3 * i + 2)
+
+-- Definition 6 of the outcome bytes of the exchange had alone
+abbrev pub Definition-6-alone : Type 0
+Definition-6-alone =
+    (n t T marks : ℕ) (inputs table : List ℕ) → Fits n t T → ((i : ℕ) → Good n (marked marks) i → at inputs i ≤ 1)
+    → let bytes = exchange-outcomes n t T marks inputs table in
+    GradedConsensus n t T (marked marks) (at inputs) (value-at bytes) (grade-at bytes)
+
+-- "only a marked sender's bytes are used", and "The input byte of a marked station is not looked at.": two calls that agree on the good
+-- stations' inputs and on what marked stations send to good ones have the same outcomes
+abbrev pub Exchange-effect : Type 0
+Exchange-effect =
+    (n t T marks : ℕ) (inputs inputs′ table table′ : List ℕ)
+    → ((i : ℕ) → Good n (marked marks) i → at inputs i ≡ at inputs′ i)
+    → ((r i j : ℕ) → 1 ≤ r → r ≤ 2 → i < n → marked marks i ≡ true → Good n (marked marks) j
+    → at table (place n r i j) ≡ at table′ (place n r i j))
+    → exchange-outcomes n t T marks inputs table ≡ exchange-outcomes n t T marks inputs′ table′
+
+-- ---- the bytes of a run
+
+-- the log has each byte at its place: "laid out like the table"
+pub record LogBytes (R : Run) : Type 0 where
+  pub size : length (log R) ≡ table-length (R .n) (R .t)
+  pub byte : (r i j : ℕ) → 1 ≤ r → r ≤ rounds (R .t) → i < R .n → j < R .n
+      → at (log R) (place (R .n) r i j) ≡ sent (setting-of R) (sender-of R) (R .value) r i j
+
+abbrev pub Log-bytes : Type 0
+Log-bytes = (R : Run) → LogBytes R
+
+-- "value, grade 0 to 2, flag 0 or 1. A bad station's three bytes are 255.", and "The flag is 1 when the grade is below 2."
+pub record OutcomeBytes (n : ℕ) (bad : ℕ → Bool) (bytes : List ℕ) : Type 0 where
+  pub size : length bytes ≡ outcomes-length n
+  pub good : (i : ℕ) → Good n bad i → (value-at bytes i ≤ 1) × (grade-at bytes i ≤ 2) × (flag-at bytes i ≡ flag-of (grade-at bytes i))
+  pub marked-value : (i : ℕ) → i < n → bad i ≡ true → value-at bytes i ≡ 255
+  pub marked-grade : (i : ℕ) → i < n → bad i ≡ true → grade-at bytes i ≡ 255
+  pub marked-flag : (i : ℕ) → i < n → bad i ≡ true → flag-at bytes i ≡ 255
+
+abbrev pub Outcome-bytes : Type 0
+Outcome-bytes = (R : Run) → OutcomeBytes (R .n) (marked (R .marks)) (outcomes R)
+
+-- "only those of a round in which it should speak have effect. The table's bytes for good senders have none.": with any other table that
+-- agrees in what marked stations send to good ones in the rounds in which they should speak, every good station sends the same and
+-- all outcomes are the same
+abbrev pub with-table : Run → List ℕ → Run
+with-table R table =
+    record { n = R .n; t = R .t; T = R .T; sender = R .sender; value = R .value; marks = R .marks; table = table }
+
+pub record SameEffect (R R′ : Run) : Type 0 where
+  pub ballots : (r i j : ℕ) → 1 ≤ r → r ≤ rounds (R .t) → Good (R .n) (marked (R .marks)) i → j < R .n
+      → at (log R) (place (R .n) r i j) ≡ at (log R′) (place (R .n) r i j)
+  pub results : outcomes R ≡ outcomes R′
+
+abbrev pub Table-effect : Type 0
+Table-effect =
+    (R : Run) (table : List ℕ) → R .t < R .n
+    → ((r i j : ℕ) → 1 ≤ r → r ≤ rounds (R .t) → i < R .n → marked (R .marks) i ≡ true → speaks (sender-of R) (part r) i ≡ true
+    → Good (R .n) (marked (R .marks)) j → at (R .table) (place (R .n) r i j) ≡ at table (place (R .n) r i j))
+    → SameEffect R (with-table R table)
+
+-- ---- demand 3
+
+abbrev pub Demand-3 : Type 0
+Demand-3 =
+    (R : Run) → Fits (R .n) (R .t) (R .T) → R .value ≤ 1
+    → TwoThreshold (R .n) (R .t) (R .T) (marked (R .marks)) (sender-of R) (R .value) (value-at (outcomes R)) (flag-at (outcomes R))
+
+-- ---- demand 2
+
+-- "Good stations run singly on the rows they received send those ballots and reach those outcomes": station j, opened with v, on the rows
+-- that it received in the run
+pub record Follows (R : Run) (j v : ℕ) : Type 0 where
+  pub running-before : (m : ℕ) → m < rounds (R .t) → result (setup R j) (after (setup R j) v (column (R .n) (log R) j) m) ≡ running (m + 1)
+  pub ballots : (m k : ℕ) → m < rounds (R .t) → k < R .n
+      → ballot (setup R j) (after (setup R j) v (column (R .n) (log R) j) m) ≡ at (log R) (place (R .n) (m + 1) j k)
+  pub done-after : result (setup R j) (after (setup R j) v (column (R .n) (log R) j) (rounds (R .t)))
+      ≡ done (value-at (outcomes R) j) (grade-at (outcomes R) j) (flag-at (outcomes R) j)
+
+-- the value that a station is opened with "matters only at the sender"
+abbrev pub Station-follows-run : Type 0
+Station-follows-run =
+    (R : Run) → Fits (R .n) (R .t) (R .T) → 1 ≤ R .sender → R .sender ≤ R .n
+    → (j v : ℕ) → Good (R .n) (marked (R .marks)) j → (j ≡ sender-of R → v ≡ R .value) → Follows R j v
+
+-- "single good stations put together with the bad ones' bytes": bytes in which each marked sender has the table's, and each good one what its
+-- single station, opened with v i, sends when it is fed its rows of these same bytes
+pub record PutTogether (R : Run) (v : ℕ → ℕ) (bytes : List ℕ) : Type 0 where
+  pub size : length bytes ≡ table-length (R .n) (R .t)
+  pub from-marked : (r i j : ℕ) → 1 ≤ r → r ≤ rounds (R .t) → i < R .n → j < R .n → marked (R .marks) i ≡ true
+      → at bytes (place (R .n) r i j) ≡ at (R .table) (place (R .n) r i j)
+  pub from-good : (r i j : ℕ) → 1 ≤ r → r ≤ rounds (R .t) → i < R .n → j < R .n → marked (R .marks) i ≡ false
+      → at bytes (place (R .n) r i j) ≡ ballot (setup R i) (after (setup R i) (v i) (column (R .n) bytes i) (r - 1))
+
+-- ".. give the whole run": such bytes are the log, the log is such, and the stations' results are the outcomes
+pub record MakeRun (R : Run) (v : ℕ → ℕ) : Type 0 where
+  pub the-log : (bytes : List ℕ) → PutTogether R v bytes → bytes ≡ log R
+  pub the-outcomes : (bytes : List ℕ) → PutTogether R v bytes → (i : ℕ) → Good (R .n) (marked (R .marks)) i
+      → result (setup R i) (after (setup R i) (v i) (column (R .n) bytes i) (rounds (R .t)))
+      ≡ done (value-at (outcomes R) i) (grade-at (outcomes R) i) (flag-at (outcomes R) i)
+  pub log-is-such : PutTogether R v (log R)
+
+abbrev pub Stations-make-run : Type 0
+Stations-make-run =
+    (R : Run) → Fits (R .n) (R .t) (R .T) → 1 ≤ R .sender → R .sender ≤ R .n
+    → (v : ℕ → ℕ) → v (sender-of R) ≡ R .value → MakeRun R v
