@@ -17,7 +17,7 @@ use Rattle.broadcast.specs.Broadcast.{value-of, final-grade, final-flag,
 use Rattle.broadcast.specs.Station.{State, Result, running, done, ballot, result, at, after}
 use Rattle.broadcast.specs.Bytes.{tabulate, setting, Run, setting-of, sender-of, log-byte, log, outcomes, setup, column}
 use Rattle.broadcast.specs.Guarantees.{Good}
-use Rattle.broadcast.specs.Theorems.{value-at, grade-at, flag-at, Follows, Station-follows-run, PutTogether, MakeRun, Stations-make-run}
+use Rattle.broadcast.specs.Theorems.{value-at, grade-at, flag-at, Follows, PutTogether, MakeRun}
 use Rattle.broadcast.proofs.ExchangeLaws.{good-sends}
 use Rattle.broadcast.proofs.BytesLaws.{at-tabulate, log-size, log-at, column-at, good-value, good-grade, good-flag}
 use Rattle.broadcast.proofs.StationLaws.{Knows, knows-after, tells, is-running, is-done}
@@ -164,9 +164,3 @@ module _ (R : Run) (fits : Fits (R .n) (R .t) (R .T)) (low : 1 ≤ R .sender) (h
       the-outcomes = λ bytes P i g. ends i (v i) (g .0) bytes (g .1) (agrees bytes P (rounds (R .t)) (omega arith));
       log-is-such = log-put-together;
     }
-
-pub station-follows-run : Station-follows-run
-station-follows-run = follows
-
-pub stations-make-run : Stations-make-run
-stations-make-run = make-run

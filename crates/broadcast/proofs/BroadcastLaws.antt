@@ -11,7 +11,7 @@ use Rattle.line.specs.Ballot.{read-sender}
 use Rattle.line.proofs.CountLaws.{widen, witness}
 use Rattle.line.proofs.BallotLaws.{read-sender-bit, read-sender-keeps}
 use Rattle.broadcast.specs.Exchange.{Setting, sends, flag-of}
-use Rattle.broadcast.specs.Broadcast.{obey, first-round, x-after, y-after, grade-after, value-of, final-grade, final-flag}
+use Rattle.broadcast.specs.Broadcast.{obey, phases, first-round, x-after, y-after, grade-after, value-of, final-grade, final-flag}
 use Rattle.broadcast.specs.Guarantees.{Good, GradedConsensus, TwoThreshold}
 use Rattle.broadcast.proofs.TallyLaws.{flag-0, flag-1, obey-bit, obey-own, obey-king}
 use Rattle.broadcast.proofs.ExchangeLaws.{faults-of, All, good-sends, y-is-bit, graded-consensus}
@@ -65,11 +65,12 @@ module _ (S : Setting) (fits : Fits (S .n) (S .t) (S .T)) (sender value : ℕ) w
       go (inr e) = obey-own (G p j) (Y p j) _ e ∙ sym (exchange p .detection-at-t f j g e p king)
 
   -- one of the t + 1 kings is good, so all good stations have the same after all phases
-  settled : faults-of S ≤ S .t → (v : ℕ) × All S (X (S .t + 1)) v
+  settled : faults-of S ≤ S .t → (v : ℕ) × All S (X (phases (S .t))) v
+  unfolding phases
   settled f =
       let (p, l, good) = witness (S .t + 1) (S .bad) (omega (arith, fits, widen (S .t + 1) (S .n) (S .bad) (omega (arith, fits)))) in
       let king : Good (S .n) (S .bad) p = (omega (arith, fits), good) in
-      (Y p p, keep-to (Y p p) (omega (arith, fits)) (suc p) (good-king f p king) (S .t + 1) (omega arith))
+      (Y p p, keep-to (Y p p) (omega (arith, fits)) (suc p) (good-king f p king) (phases (S .t)) (omega arith))
 
   -- ---- a good sender's value is taken in round 1 and kept
 
@@ -85,9 +86,9 @@ module _ (S : Setting) (fits : Fits (S .n) (S .t) (S .T)) (sender value : ℕ) w
   flags : ℕ → ℕ
   flags = final-flag S sender value
 
-  last : GradedConsensus (S .n) (S .t) (S .T) (S .bad) (X (S .t + 1)) decides (final-grade S sender value)
+  last : GradedConsensus (S .n) (S .t) (S .T) (S .bad) (X (phases (S .t))) decides (final-grade S sender value)
   unfolding decides value-of final-grade Y G
-  last = exchange (S .t + 1)
+  last = exchange (phases (S .t))
 
   flag-is : (j : ℕ) → flags j ≡ flag-of (final-grade S sender value j)
   unfolding flags final-flag
@@ -112,7 +113,7 @@ module _ (S : Setting) (fits : Fits (S .n) (S .t) (S .T)) (sender value : ℕ) w
     agreement = λ f i j gi gj. let (v, all) = agreed f in all i gi ∙ sym (all j gj);
     no-flag = quiet;
     extended-validity = λ f gs i gi.
-        last .validity f value (keep-to value f 0 (started bit (gs .1)) (S .t + 1) (omega arith)) i gi .0;
+        last .validity f value (keep-to value f 0 (started bit (gs .1)) (phases (S .t)) (omega arith)) i gi .0;
     consistency-detection = λ f i j gi gj differ k gk.
         flag-is k
         ∙ flag-1 _ (lt-of-not-le (λ h. differ (bound-by f k gk h i gi ∙ sym (bound-by f k gk h j gj))));

@@ -12,11 +12,11 @@ use Rattle.line.specs.Marks.{marked}
 use Rattle.line.proofs.CountLaws.{if-true, if-false}
 use Rattle.line.proofs.LineLaws.{place-below, place-round, place-from, place-to}
 use Rattle.broadcast.specs.Exchange.{Setting, y, grade, flag-of}
-use Rattle.broadcast.specs.Broadcast.{value-of, final-grade, final-flag, y-after, grade-after, first-round, x-after, sent}
+use Rattle.broadcast.specs.Broadcast.{phases, value-of, final-grade, final-flag, y-after, grade-after, first-round, x-after, sent}
 use Rattle.broadcast.specs.Station.{at}
 use Rattle.broadcast.specs.Bytes.{tabulate, setting, outcome-byte, outcome-bytes, exchange-outcomes, Run, setting-of, sender-of, log-byte, log, outcomes, column}
 use Rattle.broadcast.specs.Guarantees.{Good, GradedConsensus, TwoThreshold}
-use Rattle.broadcast.specs.Theorems.{value-at, grade-at, flag-at, Definition-6-alone, LogBytes, Log-bytes, OutcomeBytes, Outcome-bytes, Demand-3}
+use Rattle.broadcast.specs.Theorems.{value-at, grade-at, flag-at, Definition-6-alone, OutcomeBytes, Outcome-bytes, Demand-3}
 use Rattle.broadcast.proofs.TallyLaws.{y-bit, grade-bound}
 use Rattle.broadcast.proofs.ExchangeLaws.{y-is-bit, graded-consensus}
 use Rattle.broadcast.proofs.BroadcastLaws.{two-threshold}
@@ -56,9 +56,6 @@ unfolding log log-byte
 log-at R r i j h l hi hj =
     at-tabulate _ _ _ (place-below (R .n) r i j h hi hj (rounds (R .t)) l)
     ∙ rw (place-round (R .n) r i j h hi hj, place-from (R .n) r i j h hi hj, place-to (R .n) r i j h hi hj)
-
-pub log-bytes : Log-bytes
-log-bytes R = record { size = log-size R; byte = log-at R }
 
 -- a station's row of bytes laid out like a table
 pub column-at : (n : ℕ) (bytes : List ℕ) (j r i : ℕ) → i < n → at (column n bytes j r) i ≡ at bytes (place n r i j)
@@ -146,25 +143,25 @@ same-two-threshold n t T bad s v D F D′ F′ d f P = record {
 
 -- ---- of the bytes
 
-pub definition-6-alone : Definition-6-alone
+pub graded-consensus-alone : Definition-6-alone
 unfolding exchange-outcomes setting
-definition-6-alone n t T marks inputs table fits bits =
+graded-consensus-alone n t T marks inputs table fits bits =
     let S = setting n t T marks table in
     same-consensus n t T (marked marks) (at inputs) _ _ _ _
     (good-value S (y S 1 (at inputs)) (grade S 1 (at inputs)) _)
     (good-grade S (y S 1 (at inputs)) (grade S 1 (at inputs)) _)
     (graded-consensus S fits 1 (at inputs) bits)
 
-pub demand-3 : Demand-3
+pub two-threshold-bytes : Demand-3
 unfolding outcomes setting
-demand-3 R fits bit =
+two-threshold-bytes R fits bit =
     same-two-threshold (R .n) (R .t) (R .T) (marked (R .marks)) (sender-of R) (R .value) _ _ _ _
     (good-value (setting-of R) _ _ _) (good-flag (setting-of R) _ _ _)
     (two-threshold (setting-of R) fits (sender-of R) (R .value) bit)
 
-pub outcome-bytes-of : Outcome-bytes
-unfolding outcomes setting value-of final-grade final-flag y-after grade-after grade
-outcome-bytes-of R =
+pub outcome-ranges-of : Outcome-bytes
+unfolding outcomes setting phases value-of final-grade final-flag y-after grade-after grade
+outcome-ranges-of R =
     let S = setting-of R in
     let p = R .t + 1 in
     let x = x-after S (sender-of R) (R .value) p in

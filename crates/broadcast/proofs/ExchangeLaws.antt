@@ -13,7 +13,6 @@ use Rattle.line.specs.Line.{Fits}
 use Rattle.line.proofs.CountLaws.{if-false, count-none, count-not}
 use Rattle.broadcast.specs.Exchange.{Setting, firsts, seconds, sends, first-row, z, second-row, y, grade}
 use Rattle.broadcast.specs.Guarantees.{Good, GradedConsensus}
-use Rattle.broadcast.specs.Theorems.{Definition-6}
 use Rattle.broadcast.proofs.TallyLaws.{firsts-low, firsts-apart, seconds-low, seconds-apart, seconds-high, z-keeps, z-because, z-bound, y-bit, y-majority, grade-2, grade-bound, grade-positive, grade-because}
 
 -- f, the number of bad stations
@@ -157,6 +156,3 @@ module _ (S : Setting) (fits : Fits (S .n) (S .t) (S .T)) (r : ℕ) (x : ℕ →
     detection-at-t = λ f i g e j h. bind-1 f i e j;
     detection = λ f i g e j h. bind-2 f i (le-of-eq (sym e)) j;
   }
-
-pub definition-6 : Definition-6
-definition-6 = graded-consensus

@@ -1,9 +1,13 @@
--- What specs/Theorems.antt states is proved here: Theorems has each proof under the statement's name, and the others lead to it.
+-- Theorems has the proof of each statement of specs/Theorems.antt. The others lead to it: TallyLaws and RowLaws are of one station's steps,
+-- ExchangeLaws of one exchange (Definition 6), PartLaws of the rounds, BroadcastLaws of a whole run (demand 3), StationLaws and AssemblyLaws
+-- of single stations (demand 2), BytesLaws of logs and outcomes, EffectLaws of what has no effect.
 pub mod TallyLaws
+pub mod RowLaws
 pub mod ExchangeLaws
+pub mod PartLaws
 pub mod BroadcastLaws
 pub mod BytesLaws
-pub mod RowLaws
-pub mod PartLaws
 pub mod StationLaws
 pub mod AssemblyLaws
+pub mod EffectLaws
+pub mod Theorems

@@ -11,7 +11,7 @@ use Rattle.line.specs.Count.{if_then_else_}
 use Rattle.line.specs.Line.{rounds}
 use Rattle.line.specs.Ballot.{silence, read-sender}
 use Rattle.broadcast.specs.Exchange.{Setting, Row, seconds, sends, z-of, y-of, grade-of, flag-of, first-row, z, second-row, y, grade}
-use Rattle.broadcast.specs.Broadcast.{obey, first-round, x-after, z-after, y-after, grade-after, value-of, final-grade, final-flag, Part, from-sender, first-of, second-of, from-king, part, speaks, spoken, said, sent}
+use Rattle.broadcast.specs.Broadcast.{obey, phases, first-round, x-after, z-after, y-after, grade-after, value-of, final-grade, final-flag, Part, from-sender, first-of, second-of, from-king, part, speaks, spoken, said, sent}
 use Rattle.broadcast.specs.Station.{Setup, State, Result, running, done, opened, held, ballot, next, taken, advance, result, at, after}
 use Rattle.broadcast.proofs.RowLaws.{seconds-same, z-same, y-same}
 use Rattle.broadcast.proofs.PartLaws.{part-sender, part-first, part-second, part-king, next-first, first-is, by-parts}
@@ -153,7 +153,7 @@ module _ (S : Setting) (sender value : ℕ) (in-line : sender < S .n) (few : S .
 
   pub is-done : (s : State) → Knows (suc (rounds (S .t))) s
       → result its-setup s ≡ done (value-of S sender value j) (final-grade S sender value j) (final-flag S sender value j)
-  unfolding result Holds value-of final-grade final-flag
+  unfolding result Holds phases value-of final-grade final-flag
   is-done s k =
       let e : suc (rounds (S .t)) ≡ first-round (S .t + 1) + 2 = omega (arith, first-is (S .t + 1)) in
       let h : Holds (from-king (S .t + 1)) s = rw (e, part-king (S .t + 1)) at (k .holds) in

@@ -73,9 +73,9 @@ three f h (suc n) = go (f n) (h n) (three f h n)
     go (suc (suc zero)) l ih = omega arith
     go (suc (suc (suc x))) l ih = absurd (omega arith)
 
-pub ballots-make-n : (n : ℕ) (row : Row) → seconds n 0 row + seconds n 1 row + seconds n blank row ≡ n
+pub seconds-make-n : (n : ℕ) (row : Row) → seconds n 0 row + seconds n 1 row + seconds n blank row ≡ n
 unfolding seconds tally
-ballots-make-n n row = three (λ k. read-second (row k)) (λ k. read-second-bound (row k)) n
+seconds-make-n n row = three (λ k. read-second (row k)) (λ k. read-second-bound (row k)) n
 
 -- ---- z is x or blank, and x only with enough ballots for it
 

@@ -12,8 +12,12 @@ use Rattle.broadcast.specs.Exchange.{Setting, sends, z, y, grade, flag-o
 unfoldable pub obey : ℕ → ℕ → ℕ → ℕ
 obey g y b = if eqb g 0 then read-king b else y
 
+-- "Phase p, from 1 to t+1": how many there are
+unfoldable pub phases : ℕ → ℕ
+phases t = t + 1
+
 -- the first round of the exchange that p phases precede: "Phase p [..] has rounds 3p−1 and 3p for one graded exchange", and this is phase
--- p + 1. "Rounds 3t+5 and 3t+6: one more graded exchange", which t + 1 phases precede
+-- p + 1. "Rounds 3t+5 and 3t+6: one more graded exchange", which all phases precede
 unfoldable pub first-round : ℕ → ℕ
 first-round p = 3 * (p + 1) - 1
 
@@ -40,10 +44,10 @@ module _ (S : Setting) (sender value : ℕ) where
 
   -- ---- outcomes: "one more graded exchange gives value and grade. The flag is 1 when the grade is below 2."
   unfoldable pub value-of : ℕ → ℕ
-  value-of j = y-after (S .t + 1) j
+  value-of j = y-after (phases (S .t)) j
 
   unfoldable pub final-grade : ℕ → ℕ
-  final-grade j = grade-after (S .t + 1) j
+  final-grade j = grade-after (phases (S .t)) j
 
   unfoldable pub final-flag : ℕ → ℕ
   final-flag j = flag-of (final-grade j)

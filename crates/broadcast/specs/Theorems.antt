@@ -89,7 +89,7 @@ pub record SameEffect (R R′ : Run) : Type 0 where
 
 abbrev pub Table-effect : Type 0
 Table-effect =
-    (R : Run) (table : List ℕ) → R .t < R .n
+    (R : Run) (table : List ℕ) → Fits (R .n) (R .t) (R .T) → 1 ≤ R .sender → R .sender ≤ R .n
     → ((r i j : ℕ) → 1 ≤ r → r ≤ rounds (R .t) → i < R .n → marked (R .marks) i ≡ true → speaks (sender-of R) (part r) i ≡ true
     → Good (R .n) (marked (R .marks)) j → at (R .table) (place (R .n) r i j) ≡ at table (place (R .n) r i j))
     → SameEffect R (with-table R table)

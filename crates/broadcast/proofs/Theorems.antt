@@ -1,0 +1,37 @@
+-- The theorems: each statement of specs/Theorems.antt, under its name, and the law that proves it. Assumes nothing.
+use Rattle.broadcast.specs.Theorems.{Ballots-make-n, Definition-6, Definition-6-alone, Exchange-effect, Log-bytes, Outcome-bytes, Table-effect, Demand-3, Station-follows-run, Stations-make-run}
+use Rattle.broadcast.proofs.TallyLaws.{seconds-make-n}
+use Rattle.broadcast.proofs.ExchangeLaws.{graded-consensus}
+use Rattle.broadcast.proofs.BytesLaws.{log-size, log-at, graded-consensus-alone, two-threshold-bytes, outcome-ranges-of}
+use Rattle.broadcast.proofs.EffectLaws.{same-exchange, same-effect}
+use Rattle.broadcast.proofs.AssemblyLaws.{follows, make-run}
+
+pub ballots-make-n : Ballots-make-n
+ballots-make-n = seconds-make-n
+
+pub definition-6 : Definition-6
+definition-6 = graded-consensus
+
+pub definition-6-alone : Definition-6-alone
+definition-6-alone = graded-consensus-alone
+
+pub exchange-effect : Exchange-effect
+exchange-effect = same-exchange
+
+pub log-bytes : Log-bytes
+log-bytes R = record { size = log-size R; byte = log-at R }
+
+pub outcome-bytes : Outcome-bytes
+outcome-bytes = outcome-ranges-of
+
+pub table-effect : Table-effect
+table-effect = same-effect
+
+pub demand-3 : Demand-3
+demand-3 = two-threshold-bytes
+
+pub station-follows-run : Station-follows-run
+station-follows-run = follows
+
+pub stations-make-run : Stations-make-run
+stations-make-run = make-run
