@@ -13,7 +13,7 @@ use Rattle.line.proofs.BallotLaws.{read-sender-bit, read-sender-keeps}
 use Rattle.broadcast.specs.Exchange.{Setting, sends, flag-of}
 use Rattle.broadcast.specs.Broadcast.{obey, phases, first-round, x-after, y-after, grade-after, value-of, final-grade, final-flag}
 use Rattle.broadcast.specs.Guarantees.{Good, GradedConsensus, TwoThreshold}
-use Rattle.broadcast.proofs.TallyLaws.{flag-0, flag-1, obey-bit, obey-own, obey-king}
+use Rattle.broadcast.proofs.TallyLaws.{flag-means, obey-means, obey-bit, obey-king}
 use Rattle.broadcast.proofs.ExchangeLaws.{faults-of, All, good-sends, y-is-bit, graded-consensus}
 
 module _ (S : Setting) (fits : Fits (S .n) (S .t) (S .T)) (sender value : ℕ) where
@@ -49,7 +49,7 @@ module _ (S : Setting) (fits : Fits (S .n) (S .t) (S .T)) (sender value : ℕ) w
 
   keep : (v : ℕ) → faults-of S ≤ S .T → (p : ℕ) → All S (X p) v → All S (X (suc p)) v
   keep v f p all j g =
-      let (same, graded) = exchange p .validity f v all j g in rw (phase p j) (obey-own (G p j) (Y p j) _ graded ∙ same)
+      let (same, graded) = exchange p .validity f v all j g in rw (phase p j) (obey-means (G p j) (Y p j) _ .1 graded ∙ same)
 
   keep-to : (v : ℕ) → faults-of S ≤ S .T → (p : ℕ) → All S (X p) v → (q : ℕ) → p ≤ q → All S (X q) v
   keep-to v f p all q l = le-ind (λ (m : ℕ). All S (X m) v) all (λ m _ ih. keep v f m ih) q l
@@ -62,7 +62,7 @@ module _ (S : Setting) (fits : Fits (S .n) (S .t) (S .T)) (sender value : ℕ) w
     where
       go : (G p j ≡ 0) ⊎ (0 < G p j) → obey (G p j) (Y p j) (Y p p) ≡ Y p p
       go (inl e) = rw e (obey-king (Y p j) (Y p p) (Y-bit p p))
-      go (inr e) = obey-own (G p j) (Y p j) _ e ∙ sym (exchange p .detection-at-t f j g e p king)
+      go (inr e) = obey-means (G p j) (Y p j) _ .1 e ∙ sym (exchange p .detection-at-t f j g e p king)
 
   -- one of the t + 1 kings is good, so all good stations have the same after all phases
   settled : faults-of S ≤ S .t → (v : ℕ) × All S (X (phases (S .t))) v
@@ -100,7 +100,7 @@ module _ (S : Setting) (fits : Fits (S .n) (S .t) (S .T)) (sender value : ℕ) w
 
   quiet : faults-of S ≤ S .t → (i : ℕ) → Good (S .n) (S .bad) i → flags i ≡ 0
   quiet f i g =
-      let (v, all) = settled f in flag-is i ∙ flag-0 _ (le-of-eq (sym (last .validity-at-t f v all i g .1)))
+      let (v, all) = settled f in flag-is i ∙ flag-means _ .1 (le-of-eq (sym (last .validity-at-t f v all i g .1)))
 
   -- f at most T: a good station without a flag has grade 2, which binds all
   bound-by : faults-of S ≤ S .T → (k : ℕ) → Good (S .n) (S .bad) k → 2 ≤ final-grade S sender value k → All S decides (decides k)
@@ -116,6 +116,6 @@ module _ (S : Setting) (fits : Fits (S .n) (S .t) (S .T)) (sender value : ℕ) w
         last .validity f value (keep-to value f 0 (started bit (gs .1)) (phases (S .t)) (omega arith)) i gi .0;
     consistency-detection = λ f i j gi gj differ k gk.
         flag-is k
-        ∙ flag-1 _ (lt-of-not-le (λ h. differ (bound-by f k gk h i gi ∙ sym (bound-by f k gk h j gj))));
+        ∙ flag-means _ .0 (lt-of-not-le (λ h. differ (bound-by f k gk h i gi ∙ sym (bound-by f k gk h j gj))));
     flag-soundness = λ i gi e. lt-of-not-le (λ f. omega (arith, quiet f i gi));
   }

@@ -13,7 +13,7 @@ use Rattle.line.specs.Line.{Fits}
 use Rattle.line.proofs.CountLaws.{if-false, count-none, count-not}
 use Rattle.broadcast.specs.Exchange.{Setting, firsts, seconds, sends, first-row, z, second-row, y, grade}
 use Rattle.broadcast.specs.Guarantees.{Good, GradedConsensus}
-use Rattle.broadcast.proofs.TallyLaws.{firsts-low, firsts-apart, seconds-low, seconds-apart, seconds-high, z-keeps, z-because, z-bound, y-bit, y-majority, grade-2, grade-bound, grade-positive, grade-because}
+use Rattle.broadcast.proofs.TallyLaws.{firsts-low, firsts-apart, seconds-low, seconds-apart, seconds-high, z-means, z-because, z-bound, y-bit, y-majority, grade-2, grade-bound, grade-positive, grade-because}
 
 -- f, the number of bad stations
 abbrev pub faults-of : Setting → ℕ
@@ -56,7 +56,7 @@ module _ (S : Setting) (fits : Fits (S .n) (S .t) (S .T)) (r : ℕ) (x : ℕ →
     valid-z j g =
         let c : count (S .n) (λ k. not (S .bad k)) ≤ firsts (S .n) v (first-row S r x j)
         = firsts-low (S .n) (first-row S r x j) v bit _ (λ k l b. from-good-1 k j (not-true _ b) ∙ all k (l, not-true _ b)) in
-        z-keeps (S .n) (S .T) (x j) (first-row S r x j) (rw (all j g) (omega (arith, count-not (S .n) (S .bad)))) ∙ all j g
+        z-means (S .n) (S .T) (x j) (first-row S r x j) .0 (rw (all j g) (omega (arith, count-not (S .n) (S .bad)))) ∙ all j g
 
     -- the good stations' ballots for v reach everybody
     valid-count : (j : ℕ) → S .n ≤ seconds (S .n) v (second-row S r x j) + faults-of S
@@ -73,7 +73,7 @@ module _ (S : Setting) (fits : Fits (S .n) (S .t) (S .T)) (r : ℕ) (x : ℕ →
 
     valid-1 : (j : ℕ) → 1 ≤ grade S r x j
     unfolding grade
-    valid-1 j = grade-positive (S .n) (S .t) (S .T) _ (fits .order) (rw (valid-y j) (omega (arith, valid-count j)))
+    valid-1 j = grade-positive (S .n) (S .t) (S .T) _ (rw (valid-y j) (omega (arith, valid-count j)))
 
     valid-2 : faults-of S ≤ S .t → (j : ℕ) → grade S r x j ≡ 2
     unfolding grade

@@ -3,15 +3,45 @@
 use Prim.Native.Nat.{ℕ, zero, suc, _+_, _-_, _≤_, _<_}
 use mathlib.Core.Path.{_≡_, refl, sym, ap, _∙_}
 use mathlib.Core.Bool.{Bool, true, false}
+use mathlib.Core.Logic.{_⊎_, inl, inr, _≢_}
 use native.Mathlib.Omega.{arith}
+use native.Mathlib.Nat.{eq-zero-or-pos}
 use lib.Dec.{leb, ltb, eqb}
-use borrow.Author.Tests.{leb-true, eqb-true, lt-ltb, le-ltb, le-leb, eq-eqb, ne-eqb}
+use borrow.Author.Tests.{eqb-true, lt-ltb, le-ltb, le-leb, lt-leb, eq-eqb, ne-eqb}
 use Rattle.line.specs.Count.{if_then_else_, count}
 use Rattle.line.specs.Ballot.{blank, read-first, read-second, read-king}
-use Rattle.line.proofs.CountLaws.{if-true, if-false, cover, mono, disjoint}
-use Rattle.line.proofs.BallotLaws.{read-first-keeps, read-second-keeps, read-second-bound, read-king-keeps, read-king-bit}
+use Rattle.line.proofs.CountLaws.{if-true, if-false, le-or-lt, count-same, count-none, cover, mono, disjoint}
+use Rattle.line.proofs.BallotLaws.{read-first-keeps, read-second-keeps, read-second-bound, read-second-because, read-king-keeps, read-king-bit}
 use Rattle.broadcast.specs.Exchange.{Row, tally, firsts, seconds, z-of, y-of, grade-of, flag-of}
 use Rattle.broadcast.specs.Broadcast.{obey}
+
+-- ---- zeros, ones and blanks
+
+pub blanks-for-neither : (n v : ℕ) (row : Row) → v ≤ 1 → ((k : ℕ) → k < n → row k ≢ v) → seconds n v row ≡ 0
+unfolding seconds tally
+blanks-for-neither n v row h other =
+    count-same n _ _ (λ k l. ne-eqb (read-second (row k)) v (λ e. other k l (read-second-because (row k) v h e))) ∙ count-none n
+
+-- what is 0, 1 or 2 everywhere: the three counts make n
+three : (f : ℕ → ℕ) → ((k : ℕ) → f k ≤ 2) → (n : ℕ)
+    → count n (λ k. eqb (f k) 0) + count n (λ k. eqb (f k) 1) + count n (λ k. eqb (f k) 2) ≡ n
+unfolding count
+three f h zero = refl
+three f h (suc n) = go (f n) (h n) (three f h n)
+  where
+    c : ℕ → ℕ
+    c v = count n (λ k. eqb (f k) v)
+
+    go : (x : ℕ) → x ≤ 2 → c 0 + c 1 + c 2 ≡ n
+        → (if eqb x 0 then 1 else 0) + c 0 + ((if eqb x 1 then 1 else 0) + c 1) + ((if eqb x 2 then 1 else 0) + c 2) ≡ suc n
+    go zero l ih = omega arith
+    go (suc zero) l ih = omega arith
+    go (suc (suc zero)) l ih = omega arith
+    go (suc (suc (suc x))) l ih = absurd (omega arith)
+
+pub seconds-make-n : (n : ℕ) (row : Row) → seconds n 0 row + seconds n 1 row + seconds n blank row ≡ n
+unfolding seconds tally
+seconds-make-n n row = three (λ k. read-second (row k)) (λ k. read-second-bound (row k)) n
 
 -- ---- tallies
 
@@ -57,125 +87,114 @@ module _ (n : ℕ) (row : Row) where
   seconds-high v bad p h =
       tally-high read-second n row v bad p (λ k l b e. h k l b .1 (sym (read-second-keeps (row k) (h k l b .0)) ∙ e))
 
--- what is 0, 1 or 2 everywhere: the three counts make n
-three : (f : ℕ → ℕ) → ((k : ℕ) → f k ≤ 2) → (n : ℕ)
-    → count n (λ k. eqb (f k) 0) + count n (λ k. eqb (f k) 1) + count n (λ k. eqb (f k) 2) ≡ n
-unfolding count
-three f h zero = refl
-three f h (suc n) = go (f n) (h n) (three f h n)
-  where
-    c : ℕ → ℕ
-    c v = count n (λ k. eqb (f k) v)
-    go : (x : ℕ) → x ≤ 2 → c 0 + c 1 + c 2 ≡ n
-        → (if eqb x 0 then 1 else 0) + c 0 + ((if eqb x 1 then 1 else 0) + c 1) + ((if eqb x 2 then 1 else 0) + c 2) ≡ suc n
-    go zero l ih = omega arith
-    go (suc zero) l ih = omega arith
-    go (suc (suc zero)) l ih = omega arith
-    go (suc (suc (suc x))) l ih = absurd (omega arith)
+-- ---- each step in plain facts, as document 01 has it
 
-pub seconds-make-n : (n : ℕ) (row : Row) → seconds n 0 row + seconds n 1 row + seconds n blank row ≡ n
-unfolding seconds tally
-seconds-make-n n row = three (λ k. read-second (row k)) (λ k. read-second-bound (row k)) n
-
--- ---- z is x or blank, and x only with enough ballots for it
-
-pub z-keeps : (n T x : ℕ) (row : Row) → n - T ≤ firsts n x row → z-of n T x row ≡ x
+-- step 2
+pub z-means : (n T x : ℕ) (row : Row)
+    → (n - T ≤ firsts n x row → z-of n T x row ≡ x) × (firsts n x row < n - T → z-of n T x row ≡ blank)
 unfolding z-of
-z-keeps n T x row h = if-true x blank (le-leb (n - T) (firsts n x row) h)
+z-means n T x row =
+    (λ h. if-true x blank (le-leb (n - T) (firsts n x row) h), λ h. if-false x blank (lt-leb (n - T) (firsts n x row) h))
+
+-- step 4
+pub y-means : (n : ℕ) (row : Row)
+    → (seconds n 1 row < seconds n 0 row → y-of n row ≡ 0) × (seconds n 0 row ≤ seconds n 1 row → y-of n row ≡ 1)
+unfolding y-of
+y-means n row =
+    (λ h. if-true 0 1 (lt-ltb (seconds n 1 row) (seconds n 0 row) h), λ h. if-false 0 1 (le-ltb (seconds n 1 row) (seconds n 0 row) h))
+
+-- step 5
+pub grade-means : (n t T c : ℕ)
+    → (n - t ≤ c → grade-of n t T c ≡ 2)
+    × (c < n - t → n - T ≤ c → grade-of n t T c ≡ 1)
+    × (c < n - t → c < n - T → grade-of n t T c ≡ 0)
+unfolding grade-of
+grade-means n t T c =
+    (λ h. rw (le-leb (n - t) c h), λ h k. rw (lt-leb (n - t) c h, le-leb (n - T) c k), λ h k. rw (lt-leb (n - t) c h, lt-leb (n - T) c k))
+
+-- the flag
+pub flag-means : (g : ℕ) → (g < 2 → flag-of g ≡ 1) × (2 ≤ g → flag-of g ≡ 0)
+unfolding flag-of
+flag-means g = (λ h. if-true 1 0 (lt-ltb g 2 h), λ h. if-false 1 0 (le-ltb g 2 h))
+
+-- the king's word
+pub obey-means : (g y b : ℕ) → (g ≡ 0 → obey g y b ≡ read-king b) × (1 ≤ g → obey g y b ≡ y)
+unfolding obey
+obey-means g y b = (λ h. if-true _ _ (eq-eqb g 0 h), λ h. if-false _ _ (ne-eqb g 0 (omega arith)))
+
+-- ---- what follows: z is x or blank, and x only with enough ballots for it
 
 pub z-because : (n T x v : ℕ) (row : Row) → v ≤ 1 → z-of n T x row ≡ v → (x ≡ v) × (n - T ≤ firsts n v row)
-unfolding z-of
-z-because n T x v row h = go (leb (n - T) (firsts n x row)) refl
+z-because n T x v row h q = go (le-or-lt (n - T) (firsts n x row))
   where
-    go : (c : Bool) → leb (n - T) (firsts n x row) ≡ c → if c then x else blank ≡ v → (x ≡ v) × (n - T ≤ firsts n v row)
-    go true e q = (q, rw q at (leb-true (n - T) (firsts n x row) e))
-    go false e q = absurd (omega arith)
+    go : (n - T ≤ firsts n x row) ⊎ (firsts n x row < n - T) → (x ≡ v) × (n - T ≤ firsts n v row)
+    go (inl k) = let e : x ≡ v = sym (z-means n T x row .0 k) ∙ q in (e, rw e at k)
+    go (inr k) = absurd (omega (arith, z-means n T x row .1 k))
 
 pub z-bound : (n T x : ℕ) (row : Row) → x ≤ 1 → z-of n T x row ≤ 2
-unfolding z-of
-z-bound n T x row h = go (leb (n - T) (firsts n x row))
+z-bound n T x row h = go (le-or-lt (n - T) (firsts n x row))
   where
-    go : (c : Bool) → (if c then x else blank) ≤ 2
-    go true = omega arith
-    go false = omega arith
+    go : (n - T ≤ firsts n x row) ⊎ (firsts n x row < n - T) → z-of n T x row ≤ 2
+    go (inl k) = omega (arith, z-means n T x row .0 k)
+    go (inr k) = omega (arith, z-means n T x row .1 k)
 
 -- ---- y is 0 or 1, and the value with the larger count
 
 pub y-bit : (n : ℕ) (row : Row) → y-of n row ≤ 1
-unfolding y-of
-y-bit n row = go (ltb (seconds n 1 row) (seconds n 0 row))
+y-bit n row = go (le-or-lt (seconds n 0 row) (seconds n 1 row))
   where
-    go : (c : Bool) → (if c then 0 else 1) ≤ 1
-    go true = omega arith
-    go false = omega arith
+    go : (seconds n 0 row ≤ seconds n 1 row) ⊎ (seconds n 1 row < seconds n 0 row) → y-of n row ≤ 1
+    go (inl k) = omega (arith, y-means n row .1 k)
+    go (inr k) = omega (arith, y-means n row .0 k)
 
 pub y-majority : (n : ℕ) (row : Row) (v w : ℕ) → v + w ≡ 1 → seconds n w row < seconds n v row → y-of n row ≡ v
-unfolding y-of
 y-majority n row zero zero s h = absurd (omega arith)
-y-majority n row zero (suc zero) s h = if-true 0 1 (lt-ltb (seconds n 1 row) (seconds n 0 row) h)
+y-majority n row zero (suc zero) s h = y-means n row .0 h
 y-majority n row zero (suc (suc w)) s h = absurd (omega arith)
-y-majority n row (suc zero) zero s h = if-false 0 1 (le-ltb (seconds n 1 row) (seconds n 0 row) (omega arith))
+y-majority n row (suc zero) zero s h = y-means n row .1 (omega arith)
 y-majority n row (suc zero) (suc w) s h = absurd (omega arith)
 y-majority n row (suc (suc v)) w s h = absurd (omega arith)
 
--- ---- the grade: 2 at n - t, 1 at n - T
+-- ---- the grade is 0, 1 or 2, and tells how many counted for y
 
-pub grade-2 : (n t T c : ℕ) → n - t ≤ c → grade-of n t T c ≡ 2
-unfolding grade-of
-grade-2 n t T c h = if-true 2 _ (le-leb (n - t) c h)
+module _ (n t T c : ℕ) where
+  three-grades : (P : Type 0) → (n - t ≤ c → P) → (c < n - t → n - T ≤ c → P) → (c < n - t → c < n - T → P) → P
+  three-grades P two one none = go (le-or-lt (n - t) c) (le-or-lt (n - T) c)
+    where
+      go : (n - t ≤ c) ⊎ (c < n - t) → (n - T ≤ c) ⊎ (c < n - T) → P
+      go (inl a) b = two a
+      go (inr a) (inl b) = one a b
+      go (inr a) (inr b) = none a b
 
-pub grade-bound : (n t T c : ℕ) → grade-of n t T c ≤ 2
-unfolding grade-of
-grade-bound n t T c = go (leb (n - t) c) (leb (n - T) c)
-  where
-    go : (a b : Bool) → (if a then 2 else (if b then 1 else 0)) ≤ 2
-    go true b = omega arith
-    go false true = omega arith
-    go false false = omega arith
+  pub grade-bound : grade-of n t T c ≤ 2
+  grade-bound =
+      let m = grade-means n t T c in
+      three-grades _ (λ a. omega (arith, m .0 a)) (λ a b. omega (arith, m .1 a b)) (λ a b. omega (arith, m .2 a b))
 
-module _ (n t T c : ℕ) (order : t ≤ T) where
+  pub grade-2 : n - t ≤ c → grade-of n t T c ≡ 2
+  grade-2 = grade-means n t T c .0
+
   pub grade-positive : n - T ≤ c → 1 ≤ grade-of n t T c
-  unfolding grade-of
-  grade-positive h = go (leb (n - t) c) (leb (n - T) c) (le-leb (n - T) c h)
-    where
-      go : (a b : Bool) → b ≡ true → 1 ≤ (if a then 2 else (if b then 1 else 0))
-      go true b e = omega arith
-      go false b e = rw e (omega arith)
+  grade-positive h =
+      let m = grade-means n t T c in
+      three-grades _ (λ a. omega (arith, m .0 a)) (λ a b. omega (arith, m .1 a b)) (λ a b. absurd (omega arith))
 
-  pub grade-because : (1 ≤ grade-of n t T c → n - T ≤ c) × (2 ≤ grade-of n t T c → n - t ≤ c)
-  unfolding grade-of
-  grade-because = go (leb (n - t) c) (leb (n - T) c) refl refl
-    where
-      go : (a b : Bool) → leb (n - t) c ≡ a → leb (n - T) c ≡ b
-          → (1 ≤ (if a then 2 else (if b then 1 else 0)) → n - T ≤ c) × (2 ≤ (if a then 2 else (if b then 1 else 0)) → n - t ≤ c)
-      go true b e e′ = (λ _. omega (arith, leb-true (n - t) c e), λ _. leb-true (n - t) c e)
-      go false true e e′ = (λ _. leb-true (n - T) c e′, λ g. absurd (omega arith))
-      go false false e e′ = (λ g. absurd (omega arith), λ g. absurd (omega arith))
-
--- ---- the flag
-
-pub flag-0 : (g : ℕ) → 2 ≤ g → flag-of g ≡ 0
-unfolding flag-of
-flag-0 g h = if-false 1 0 (le-ltb g 2 h)
-
-pub flag-1 : (g : ℕ) → g < 2 → flag-of g ≡ 1
-unfolding flag-of
-flag-1 g h = if-true 1 0 (lt-ltb g 2 h)
+  pub grade-because : t ≤ T → (1 ≤ grade-of n t T c → n - T ≤ c) × (2 ≤ grade-of n t T c → n - t ≤ c)
+  grade-because order =
+      let m = grade-means n t T c in
+      three-grades _
+      (λ a. (λ _. omega arith, λ _. a))
+      (λ a b. (λ _. b, λ g. absurd (omega (arith, m .1 a b))))
+      (λ a b. (λ g. absurd (omega (arith, m .2 a b)), λ g. absurd (omega (arith, m .2 a b))))
 
 -- ---- the king is obeyed at grade 0 only
 
 pub obey-bit : (g y b : ℕ) → y ≤ 1 → obey g y b ≤ 1
-unfolding obey
-obey-bit g y b h = go (eqb g 0)
+obey-bit g y b h = go (eq-zero-or-pos g)
   where
-    go : (c : Bool) → (if c then read-king b else y) ≤ 1
-    go true = read-king-bit b
-    go false = h
-
-pub obey-own : (g y b : ℕ) → 1 ≤ g → obey g y b ≡ y
-unfolding obey
-obey-own g y b h = if-false _ _ (ne-eqb g 0 (omega arith))
+    go : (g ≡ 0) ⊎ (0 < g) → obey g y b ≤ 1
+    go (inl e) = rw (obey-means g y b .0 e) (read-king-bit b)
+    go (inr e) = rw (obey-means g y b .1 e) h
 
 pub obey-king : (y b : ℕ) → b ≤ 1 → obey 0 y b ≡ b
-unfolding obey
-obey-king y b h = read-king-keeps b h
+obey-king y b h = obey-means 0 y b .0 refl ∙ read-king-keeps b h

@@ -1,10 +1,13 @@
 -- The theorems: each statement of specs/Theorems.antt, under its name, and the law that proves it. Assumes nothing.
-use Rattle.broadcast.specs.Theorems.{Ballots-make-n, Definition-6, Definition-6-alone, Exchange-effect, Log-bytes, Outcome-bytes, Table-effect, Demand-3, Station-follows-run, Stations-make-run}
-use Rattle.broadcast.proofs.TallyLaws.{seconds-make-n}
+use Rattle.broadcast.specs.Theorems.{Blanks-count-for-neither, Ballots-make-n, Definition-6, Definition-6-alone, Exchange-effect, Log-bytes, Outcome-bytes, Table-effect, Demand-3, Station-follows-run, Stations-make-run}
+use Rattle.broadcast.proofs.TallyLaws.{blanks-for-neither, seconds-make-n}
 use Rattle.broadcast.proofs.ExchangeLaws.{graded-consensus}
 use Rattle.broadcast.proofs.BytesLaws.{log-size, log-at, graded-consensus-alone, two-threshold-bytes, outcome-ranges-of}
 use Rattle.broadcast.proofs.EffectLaws.{same-exchange, same-effect}
 use Rattle.broadcast.proofs.AssemblyLaws.{follows, make-run}
+
+pub blanks-count-for-neither : Blanks-count-for-neither
+blanks-count-for-neither = blanks-for-neither
 
 pub ballots-make-n : Ballots-make-n
 ballots-make-n = seconds-make-n

@@ -2,6 +2,7 @@
 -- of these is not needed it is left out.
 use Prim.Native.Nat.{ℕ, zero, suc, _+_, _-_, _*_, _≤_, _<_}
 use mathlib.Core.Path.{_≡_}
+use mathlib.Core.Logic.{_≢_}
 use mathlib.Core.Bool.{Bool, true, false}
 use mathlib.Core.List.{List}
 use lib.ListN.{length}
@@ -16,7 +17,11 @@ use Rattle.broadcast.specs.Guarantees.{Good, GradedConsensus, TwoThresho
 
 -- ---- the graded exchange
 
--- step 4: "zeros, ones and blanks make n"
+-- step 4: "blanks count for neither": what is counted for 0 or 1 are bytes 0 or 1
+abbrev pub Blanks-count-for-neither : Type 0
+Blanks-count-for-neither = (n v : ℕ) (row : Row) → v ≤ 1 → ((k : ℕ) → k < n → row k ≢ v) → seconds n v row ≡ 0
+
+-- step 4: "and zeros, ones and blanks make n"
 abbrev pub Ballots-make-n : Type 0
 Ballots-make-n = (n : ℕ) (row : Row) → seconds n 0 row + seconds n 1 row + seconds n blank row ≡ n
 

@@ -60,3 +60,12 @@ read-second-keeps b h = go (leb b 1) refl
     go : (c : Bool) → leb b 1 ≡ c → if c then b else blank ≡ b
     go true e = refl
     go false e = omega (arith, leb-false b 1 e)
+
+-- only the byte v itself is read as v, where v is 0 or 1
+pub read-second-because : (b v : ℕ) → v ≤ 1 → read-second b ≡ v → b ≡ v
+unfolding read-second bit-or
+read-second-because b v h = go (leb b 1)
+  where
+    go : (c : Bool) → if c then b else blank ≡ v → b ≡ v
+    go true e = e
+    go false e = absurd (omega arith)

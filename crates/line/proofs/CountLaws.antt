@@ -1,11 +1,14 @@
--- Laws of a choice and of counting. Assumes nothing.
+-- Laws of a choice, of an order's two cases, and of counting. Assumes nothing.
 use Prim.Native.Nat.{ℕ, zero, suc, _+_, _≤_, _<_}
 use mathlib.Core.Path.{_≡_, refl, sym}
 use mathlib.Core.Bool.{Bool, true, false, not, true≢false}
+use mathlib.Core.Logic.{_⊎_, inl, inr}
 use native.Mathlib.Omega.{arith}
 use native.Mathlib.Numerals.{add-one}
 use native.Mathlib.Nat.{le-refl}
 use native.Mathlib.Decide.{le-ind}
+use lib.Dec.{leb}
+use borrow.Author.Tests.{leb-true, leb-false}
 use Rattle.line.specs.Count.{if_then_else_, count}
 
 pub if-true : {A : Type 0} {b : Bool} (u v : A) → b ≡ true → if b then u else v ≡ u
@@ -13,6 +16,13 @@ if-true u v e = rw e
 
 pub if-false : {A : Type 0} {b : Bool} (u v : A) → b ≡ false → if b then u else v ≡ v
 if-false u v e = rw e
+
+pub le-or-lt : (a b : ℕ) → (a ≤ b) ⊎ (b < a)
+le-or-lt a b = go (leb a b) refl
+  where
+    go : (c : Bool) → leb a b ≡ c → (a ≤ b) ⊎ (b < a)
+    go true e = inl (leb-true a b e)
+    go false e = inr (leb-false a b e)
 
 -- ---- one station more, as a loop counts
 

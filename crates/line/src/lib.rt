@@ -40,7 +40,7 @@ impl Line {
         ensures { λ r. ⌜ r ≡ table-length (self .n) (self .t) ⌝ }
     {
         let n = self.n as usize;
-        (3 * (self.t as usize) + 6) * n * n
+        self.rounds() * n * n
     }
 
     // The bytes of a ballot table for one graded exchange.
