@@ -19,7 +19,7 @@ use Rattle.broadcast.specs.Bytes.{tabulate, setting, Run, setting-of, se
 use Rattle.broadcast.specs.Guarantees.{Good}
 use Rattle.broadcast.specs.Theorems.{value-at, grade-at, flag-at, Follows, PutTogether, MakeRun}
 use Rattle.broadcast.proofs.ExchangeLaws.{good-sends}
-use Rattle.broadcast.proofs.BytesLaws.{at-tabulate, log-size, log-at, column-at, good-value, good-grade, good-flag}
+use Rattle.broadcast.proofs.BytesLaws.{sender-inside, kings-inside, log-size, log-at, column-at, good-value, good-grade, good-flag}
 use Rattle.broadcast.proofs.StationLaws.{Knows, knows-after, tells, is-running, is-done}
 
 -- ---- bytes laid out like a table, from their places
@@ -45,12 +45,10 @@ same-bytes n R pos l l′ s s′ h = ext-getD 0 l l′ (s ∙ sym s′) each
 
 module _ (R : Run) (fits : Fits (R .n) (R .t) (R .T)) (low : 1 ≤ R .sender) (high : R .sender ≤ R .n) where
   in-line : sender-of R < (setting-of R) .n
-  unfolding setting
-  in-line = omega arith
+  in-line = sender-inside R low high
 
   few : (setting-of R) .t < (setting-of R) .n
-  unfolding setting
-  few = omega (arith, fits)
+  few = kings-inside R fits
 
   -- what is sent in the run
   S-sent : ℕ → ℕ → ℕ → ℕ

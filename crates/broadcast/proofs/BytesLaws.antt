@@ -44,6 +44,16 @@ tabulate-same zero f g h = refl
 tabulate-same (suc m) f g h =
     rw (h 0 (omega arith), tabulate-same m (λ k. f (suc k)) (λ k. g (suc k)) (λ k l. h (suc k) (omega arith)))
 
+-- ---- a run's sender, and its kings, are stations
+
+pub sender-inside : (R : Run) → 1 ≤ R .sender → R .sender ≤ R .n → sender-of R < (setting-of R) .n
+unfolding setting
+sender-inside R low high = omega arith
+
+pub kings-inside : (R : Run) → Fits (R .n) (R .t) (R .T) → (setting-of R) .t < (setting-of R) .n
+unfolding setting
+kings-inside R fits = omega (arith, fits)
+
 -- ---- the log
 
 pub log-size : (R : Run) → length (log R) ≡ table-length (R .n) (R .t)

@@ -20,7 +20,7 @@ use Rattle.broadcast.specs.Theorems.{Exchange-effect, with-table, SameEf
 use Rattle.broadcast.proofs.RowLaws.{seconds-same, z-same, y-same}
 use Rattle.broadcast.proofs.PartLaws.{part-sender, part-first, part-second, part-king, first-is, by-parts}
 use Rattle.broadcast.proofs.ExchangeLaws.{good-sends}
-use Rattle.broadcast.proofs.BytesLaws.{log-at, outcomes-same}
+use Rattle.broadcast.proofs.BytesLaws.{sender-inside, kings-inside, log-at, outcomes-same}
 
 -- the same setting with another table
 abbrev retabled : Setting → (ℕ → ℕ → ℕ → ℕ) → Setting
@@ -160,12 +160,10 @@ module _ (R : Run) (table : List ℕ) (fits : Fits (R .n) (R .t) (R .T)) (low : 
   tab r i j = at table (place (R .n) r i j)
 
   in-line : sender-of R < (setting-of R) .n
-  unfolding setting
-  in-line = omega arith
+  in-line = sender-inside R low high
 
   few : (setting-of R) .t < (setting-of R) .n
-  unfolding setting
-  few = omega (arith, fits)
+  few = kings-inside R fits
 
   tables : (r i : ℕ) → 1 ≤ r → r ≤ rounds ((setting-of R) .t) → i < (setting-of R) .n → speaks (sender-of R) (part r) i ≡ true
       → Same (setting-of R) tab r i

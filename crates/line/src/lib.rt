@@ -1,6 +1,7 @@
 // The line of stations: its type with what follows from n, t and T, the readings of a ballot byte, marks, and the causes of refusal.
 ghost use mathlib.Core.Path.{_≡_};
-ghost use Rattle.line.specs.Line.{rounds, table-length, exchange-length, outcomes-length};
+ghost use Rattle.line.specs.Line.{most-stations, rounds, table-length, largest-table, exchange-length, outcomes-length};
+ghost use Rattle.line.specs.Ballot.{blank, silence};
 
 pub mod ballot;
 pub mod cause;
@@ -58,3 +59,8 @@ impl Line {
         3 * (self.n as usize)
     }
 }
+
+// The constants are the definitions' numbers: this holds by its contract alone.
+fn constants_agree()
+    ensures { λ _. do ⌜ ((← ⟦Line::STATIONS⟧ .entry) ≡ most-stations) × ((← ⟦Line::BLANK⟧ .entry) ≡ blank) × ((← ⟦Line::SILENCE⟧ .entry) ≡ silence) × ((← ⟦Line::LARGEST_TABLE⟧ .entry) ≡ largest-table) ⌝ }
+{}
