@@ -29,6 +29,7 @@ class Rules:
     station_kings_ballot = staticmethod(lambda y, z: y)
     offset = staticmethod(lambda n, r, i, j: ((r - 1) * n + i) * n + j)
     bad_outcome = (255, 255, 255)
+    speaks_first = staticmethod(lambda i, sender: i == sender)
 
 
 def edited(**change):
@@ -47,6 +48,7 @@ EDITED = {
     "done_a_row_early": edited(rows_to_done=lambda rounds: rounds - 1),
     "station_king_tells_z": edited(station_kings_ballot=lambda y, z: z),
     "log_from_and_to_exchanged": edited(offset=lambda n, r, i, j: ((r - 1) * n + j) * n + i),
+    "all_speak_in_round_1": edited(speaks_first=lambda i, sender: True),
     "bad_outcome_shown": edited(bad_outcome=(0, 0, 0)),
 }
 
@@ -104,7 +106,7 @@ def exchange(rules, run, r, x):
 def broadcast(rules, run):
     """The bytes said in each round, and value, grade and flag of each station."""
     n, said = run.n, {}
-    said[1] = [run.value if i == run.sender else SILENCE for i in range(n)]
+    said[1] = [run.value if rules.speaks_first(i, run.sender) else SILENCE for i in range(n)]
     x = [bit(sends(rules, run, 1, run.sender, j, run.value)) for j in range(n)]
     for p in range(rules.phases(run.t) + 1):
         r = 3 * (p + 1) - 1
@@ -135,7 +137,7 @@ class Station:
 
     def ballot(self):
         if self.round == 1:
-            return self.value if self.own == self.run.sender else SILENCE
+            return self.value if self.rules.speaks_first(self.own, self.run.sender) else SILENCE
         if self.round % 3 == 2:
             return self.value
         if self.round % 3 == 0:
@@ -193,7 +195,7 @@ def broken_exchange(rules, run, rng):
 
 
 def broken_station(rules, run, said, outcomes):
-    """Demand 2, its first sentence, and the log's layout."""
+    """Demand 2, its first sentence, the log's layout, and who is silent in round 1."""
     log = log_of(rules, run, said)
     for j in run.good:
         station = Station(rules, run, j, run.value if j == run.sender else 1 - run.value)
@@ -206,6 +208,10 @@ def broken_station(rules, run, said, outcomes):
             station.take([log[Rules.offset(run.n, r, i, j)] for i in range(run.n)])
         if station.result() != outcomes[j]:
             return "Station-follows-run, done-after"
+    for i in run.good:
+        at = Rules.offset(run.n, 1, i, 0)
+        if i != run.sender and log[at:at + run.n] != [SILENCE] * run.n:
+            return "Sent-by-rounds, not-sender"
     for i in set(range(run.n)) - set(run.good):
         if outcomes[i] != (255, 255, 255):
             return "Outcome-bytes"

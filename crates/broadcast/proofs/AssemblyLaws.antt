@@ -9,13 +9,13 @@ use native.Mathlib.Numerals.{add-one}
 use native.Mathlib.Nat.{div-add-mod', div-lt-iff-lt-mul, mod-lt, eq-or-lt-of-le}
 use lib.ListN.{length, getD}
 use lib.Seq.{ext-getD}
-use Rattle.line.specs.Line.{Fits, rounds, table-length, place}
+use Rattle.line.specs.Line.{Fits, rounds, place}
 use Rattle.line.specs.Marks.{marked}
 use Rattle.line.proofs.CountLaws.{if-true}
 use Rattle.broadcast.specs.Exchange.{sends}
 use Rattle.broadcast.specs.Broadcast.{value-of, final-grade, final-flag, said, sent}
-use Rattle.broadcast.specs.Station.{State, Result, running, done, ballot, result, at, after}
-use Rattle.broadcast.specs.Bytes.{tabulate, setting, Run, setting-of, sender-of, log-byte, log, outcomes, setup, column}
+use Rattle.broadcast.specs.Station.{State, running, done, ballot, result, at, after}
+use Rattle.broadcast.specs.Bytes.{setting, Run, setting-of, sender-of, log, outcomes, setup, column}
 use Rattle.broadcast.specs.Guarantees.{Good}
 use Rattle.broadcast.specs.Theorems.{value-at, grade-at, flag-at, Follows, PutTogether, MakeRun}
 use Rattle.broadcast.proofs.ExchangeLaws.{good-sends}

@@ -1,8 +1,8 @@
 -- Logs and outcomes as bytes: what stands where, and the guarantees said of the bytes. Assumes nothing.
-use Prim.Native.Nat.{ℕ, zero, suc, _+_, _-_, _*_, _/_, _%_, _≤_, _<_}
+use Prim.Native.Nat.{ℕ, zero, suc, _+_, _*_, _/_, _%_, _≤_, _<_}
 use mathlib.Core.Path.{_≡_, refl, sym, ap, _∙_}
 use mathlib.Core.Bool.{Bool, true, false}
-use mathlib.Core.List.{List, [], _∷_}
+use mathlib.Core.List.{List}
 use native.Mathlib.Omega.{arith}
 use lib.Dec.{eqb}
 use lib.ListN.{length, getD}
@@ -17,7 +17,7 @@ use Rattle.broadcast.specs.Station.{at}
 use Rattle.broadcast.specs.Bytes.{tabulate, setting, outcome-byte, outcome-bytes, exchange-outcomes, Run, setting-of, sender-of, log-byte, log, outcomes, column}
 use Rattle.broadcast.specs.Guarantees.{Good, GradedConsensus, TwoThreshold}
 use Rattle.broadcast.specs.Theorems.{value-at, grade-at, flag-at, Definition-6-alone, OutcomeBytes, Outcome-bytes, Demand-3}
-use Rattle.broadcast.proofs.TallyLaws.{y-bit, grade-bound}
+use Rattle.broadcast.proofs.TallyLaws.{grade-bound}
 use Rattle.broadcast.proofs.ExchangeLaws.{y-is-bit, graded-consensus}
 use Rattle.broadcast.proofs.BroadcastLaws.{two-threshold}
 

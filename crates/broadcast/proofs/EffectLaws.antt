@@ -1,18 +1,17 @@
 -- What has no effect: the table's bytes for good senders, those of a bad station in a round in which it should not speak, those to bad
 -- stations, and a bad station's input. Assumes nothing.
-use Prim.Native.Nat.{ℕ, zero, suc, _+_, _-_, _*_, _≤_, _<_}
+use Prim.Native.Nat.{ℕ, zero, suc, _+_, _≤_, _<_}
 use mathlib.Core.Path.{_≡_, refl, sym, ap, _∙_}
 use mathlib.Core.Bool.{Bool, true, false}
 use mathlib.Core.List.{List}
 use native.Mathlib.Omega.{arith}
-use lib.Dec.{eqb}
 use borrow.Author.Tests.{eq-eqb}
 use Rattle.line.specs.Count.{if_then_else_}
 use Rattle.line.specs.Line.{Fits, rounds, place}
 use Rattle.line.specs.Marks.{marked}
-use Rattle.line.specs.Ballot.{silence, read-sender}
-use Rattle.broadcast.specs.Exchange.{Setting, sends, z-of, y-of, grade-of, seconds, first-row, z, second-row, y, grade, flag-of}
-use Rattle.broadcast.specs.Broadcast.{obey, phases, first-round, x-after, z-after, y-after, grade-after, value-of, final-grade, final-flag, Part, from-sender, first-of, second-of, from-king, part, speaks, spoken, said, sent}
+use Rattle.line.specs.Ballot.{read-sender}
+use Rattle.broadcast.specs.Exchange.{Setting, sends, grade-of, seconds, first-row, z, second-row, y, grade, flag-of}
+use Rattle.broadcast.specs.Broadcast.{phases, first-round, x-after, z-after, y-after, grade-after, value-of, final-grade, final-flag, part, speaks, spoken, said, sent}
 use Rattle.broadcast.specs.Station.{at}
 use Rattle.broadcast.specs.Bytes.{setting, exchange-outcomes, Run, setting-of, sender-of, log, outcomes}
 use Rattle.broadcast.specs.Guarantees.{Good}

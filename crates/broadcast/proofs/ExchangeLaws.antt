@@ -1,6 +1,6 @@
 -- Definition 6 of one graded exchange. What all good stations enter with they leave with (validity), and a high enough grade at one good
 -- station binds all (consistency detection). The argument is that of source 001, Lemmas 1 and 2. Assumes nothing.
-use Prim.Native.Nat.{ℕ, _+_, _-_, _≤_, _<_}
+use Prim.Native.Nat.{ℕ, _+_, _-_, _≤_}
 use mathlib.Core.Path.{_≡_, refl, sym, _∙_}
 use mathlib.Core.Logic.{_≢_}
 use mathlib.Core.Bool.{Bool, true, false, not, _&&_, true≢false}

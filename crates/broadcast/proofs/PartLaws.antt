@@ -1,11 +1,9 @@
 -- The rounds of a broadcast by their parts: round 1, then three rounds for each p. Assumes nothing.
 use Prim.Native.Nat.{ℕ, zero, suc, _+_, _-_, _*_, _/_, _%_, _≤_, _<_}
-use mathlib.Core.Path.{_≡_, refl, sym}
-use mathlib.Core.Bool.{true}
+use mathlib.Core.Path.{_≡_, refl}
 use native.Mathlib.Omega.{arith}
-use lib.Dec.{eqb}
-use borrow.Author.Tests.{eq-eqb, ne-eqb}
-use Rattle.broadcast.specs.Broadcast.{Part, from-sender, first-of, second-of, from-king, part, first-round}
+use borrow.Author.Tests.{ne-eqb}
+use Rattle.broadcast.specs.Broadcast.{from-sender, first-of, second-of, from-king, part, first-round}
 
 pub part-sender : part 1 ≡ from-sender
 unfolding part

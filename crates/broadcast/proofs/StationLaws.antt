@@ -1,6 +1,6 @@
 -- A single station in a run: as long as its rows have the run's bytes, it knows what the run makes of it. Assumes nothing.
-use Prim.Native.Nat.{ℕ, zero, suc, _+_, _-_, _*_, _≤_, _<_}
-use mathlib.Core.Path.{_≡_, refl, sym, ap, _∙_}
+use Prim.Native.Nat.{ℕ, zero, suc, _+_, _≤_, _<_}
+use mathlib.Core.Path.{_≡_, refl, ap, _∙_}
 use mathlib.Core.Bool.{Bool, true, false}
 use mathlib.Core.List.{List}
 use native.Mathlib.Omega.{arith}
@@ -10,30 +10,12 @@ use borrow.Author.Tests.{eqb-true, eq-eqb, ne-eqb}
 use Rattle.line.specs.Count.{if_then_else_}
 use Rattle.line.specs.Line.{rounds}
 use Rattle.line.specs.Ballot.{silence, read-sender}
-use Rattle.broadcast.specs.Exchange.{Setting, Row, seconds, sends, z-of, y-of, grade-of, flag-of, first-row, z, second-row, y, grade}
-use Rattle.broadcast.specs.Broadcast.{obey, phases, first-round, x-after, z-after, y-after, grade-after, value-of, final-grade, final-flag, Part, from-sender, first-of, second-of, from-king, part, speaks, spoken, said, sent}
-use Rattle.broadcast.specs.Station.{Setup, State, Result, running, done, opened, held, ballot, next, taken, advance, result, at, after}
+use Rattle.broadcast.specs.Exchange.{Setting, Row, sends, grade-of, first-row, z, second-row, y, grade}
+use Rattle.broadcast.specs.Broadcast.{phases, first-round, x-after, z-after, y-after, grade-after, value-of, final-grade, final-flag, Part, from-sender, first-of, second-of, from-king, part, speaks, spoken, said, sent}
+use Rattle.broadcast.specs.Station.{Setup, State, running, done, opened, held, ballot, next, taken, advance, result, at, after}
 use Rattle.broadcast.proofs.RowLaws.{seconds-same, z-same, y-same}
 use Rattle.broadcast.proofs.PartLaws.{part-sender, part-first, part-second, part-king, next-first, first-is, by-parts}
-
--- ---- what is said in each part
-
-module _ (S : Setting) (sender value : ℕ) where
-  said-first : (p i : ℕ) → said S sender value (first-round p) i ≡ x-after S sender value p i
-  unfolding said speaks spoken
-  said-first p i = rw (part-first p)
-
-  said-second : (p i : ℕ) → said S sender value (first-round p + 1) i ≡ z-after S sender value p i
-  unfolding said speaks spoken
-  said-second p i = rw (part-second p)
-
-  said-king : (p : ℕ) → said S sender value (first-round p + 2) p ≡ y-after S sender value p p
-  unfolding said speaks spoken
-  said-king p = rw (part-king p, eq-eqb p p refl)
-
-  said-sender : said S sender value 1 sender ≡ value
-  unfolding said speaks spoken
-  said-sender = rw (part-sender, eq-eqb sender sender refl)
+use Rattle.broadcast.proofs.SaidLaws.{said-sender, said-first, said-second, said-king}
 
 -- ---- station j of a run, opened with v
 

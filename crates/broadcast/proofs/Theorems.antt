@@ -1,8 +1,9 @@
 -- The theorems: each statement of specs/Theorems.antt, under its name, and the law that proves it. Assumes nothing.
-use Rattle.broadcast.specs.Theorems.{Blanks-count-for-neither, Ballots-make-n, Definition-6, Definition-6-alone, Exchange-effect, Log-bytes, Outcome-bytes, Table-effect, Demand-3, Station-follows-run, Stations-make-run}
+use Rattle.broadcast.specs.Theorems.{Blanks-count-for-neither, Ballots-make-n, Definition-6, Definition-6-alone, Exchange-effect, Log-bytes, Sent-by-rounds, Outcome-bytes, Table-effect, Demand-3, Station-follows-run, Stations-make-run}
 use Rattle.broadcast.proofs.TallyLaws.{blanks-for-neither, seconds-make-n}
 use Rattle.broadcast.proofs.ExchangeLaws.{graded-consensus}
 use Rattle.broadcast.proofs.BytesLaws.{log-size, log-at, graded-consensus-alone, two-threshold-bytes, outcome-ranges-of}
+use Rattle.broadcast.proofs.SaidLaws as said
 use Rattle.broadcast.proofs.EffectLaws.{same-exchange, same-effect}
 use Rattle.broadcast.proofs.AssemblyLaws.{follows, make-run}
 
@@ -23,6 +24,9 @@ exchange-effect = same-exchange
 
 pub log-bytes : Log-bytes
 log-bytes R = record { size = log-size R; byte = log-at R }
+
+pub sent-by-rounds : Sent-by-rounds
+sent-by-rounds = said.sent-by-rounds
 
 pub outcome-bytes : Outcome-bytes
 outcome-bytes = outcome-ranges-of

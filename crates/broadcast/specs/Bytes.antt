@@ -1,11 +1,10 @@
 -- Tables, logs and outcomes as lists of bytes (document 01, "Names", "The graded exchange" and "The broadcast").
-use Prim.Native.Nat.{ℕ, zero, suc, _+_, _-_, _*_, _/_, _%_}
+use Prim.Native.Nat.{ℕ, zero, suc, _+_, _-_, _/_, _%_}
 use mathlib.Core.List.{List, [], _∷_}
 use lib.Dec.{eqb}
 use Rattle.line.specs.Count.{if_then_else_}
 use Rattle.line.specs.Line.{table-length, outcomes-length, place}
 use Rattle.line.specs.Marks.{marked}
-use Rattle.line.specs.Ballot.{silence}
 use Rattle.broadcast.specs.Exchange.{Setting, y, grade, flag-of}
 use Rattle.broadcast.specs.Broadcast.{value-of, final-grade, final-flag, sent}
 use Rattle.broadcast.specs.Station.{Setup, at}

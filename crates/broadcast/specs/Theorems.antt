@@ -1,6 +1,6 @@
 -- The statements that proofs/Theorems.antt proves, each under the same name in lower case. Their hypotheses are document 01's, and where one
 -- of these is not needed it is left out.
-use Prim.Native.Nat.{ℕ, zero, suc, _+_, _-_, _*_, _≤_, _<_}
+use Prim.Native.Nat.{ℕ, _+_, _-_, _*_, _≤_, _<_}
 use mathlib.Core.Path.{_≡_}
 use mathlib.Core.Logic.{_≢_}
 use mathlib.Core.Bool.{Bool, true, false}
@@ -10,8 +10,8 @@ use Rattle.line.specs.Line.{Fits, rounds, table-length, outcomes-length, place}
 use Rattle.line.specs.Marks.{marked}
 use Rattle.line.specs.Ballot.{blank}
 use Rattle.broadcast.specs.Exchange.{Row, seconds, Setting, y, grade, flag-of}
-use Rattle.broadcast.specs.Broadcast.{part, speaks, sent}
-use Rattle.broadcast.specs.Station.{State, running, done, ballot, result, at, after}
+use Rattle.broadcast.specs.Broadcast.{x-after, z-after, y-after, part, speaks, sent}
+use Rattle.broadcast.specs.Station.{running, done, ballot, result, at, after}
 use Rattle.broadcast.specs.Bytes.{exchange-outcomes, Run, setting-of, sender-of, log, outcomes, setup, column}
 use Rattle.broadcast.specs.Guarantees.{Good, GradedConsensus, TwoThreshold}
 
@@ -68,6 +68,24 @@ pub record LogBytes (R : Run) : Type 0 where
 
 abbrev pub Log-bytes : Type 0
 Log-bytes = (R : Run) → LogBytes R
+
+-- what good station i sends to each j, in document 01's own rounds and phases: "Phase p, from 1 to t+1, has rounds 3p−1 and 3p for one graded
+-- exchange, and round 3p+1, in which king p sends its y.", "Rounds 3t+5 and 3t+6: one more graded exchange", which is phase t + 2 here, and
+-- "255 in a round where it doesn't speak"
+pub record SentByRounds (R : Run) (i j : ℕ) : Type 0 where
+  pub sender : i + 1 ≡ R .sender → at (log R) (place (R .n) 1 i j) ≡ R .value
+  pub not-sender : i + 1 ≢ R .sender → at (log R) (place (R .n) 1 i j) ≡ 255
+  pub first : (p : ℕ) → 1 ≤ p → p ≤ R .t + 2
+      → at (log R) (place (R .n) (3 * p - 1) i j) ≡ x-after (setting-of R) (sender-of R) (R .value) (p - 1) i
+  pub second : (p : ℕ) → 1 ≤ p → p ≤ R .t + 2
+      → at (log R) (place (R .n) (3 * p) i j) ≡ z-after (setting-of R) (sender-of R) (R .value) (p - 1) i
+  pub king : (p : ℕ) → 1 ≤ p → p ≤ R .t + 1 → i + 1 ≡ p
+      → at (log R) (place (R .n) (3 * p + 1) i j) ≡ y-after (setting-of R) (sender-of R) (R .value) (p - 1) i
+  pub not-king : (p : ℕ) → 1 ≤ p → p ≤ R .t + 1 → i + 1 ≢ p → at (log R) (place (R .n) (3 * p + 1) i j) ≡ 255
+
+abbrev pub Sent-by-rounds : Type 0
+Sent-by-rounds =
+    (R : Run) → 1 ≤ R .sender → (i j : ℕ) → Good (R .n) (marked (R .marks)) i → j < R .n → SentByRounds R i j
 
 -- "value, grade 0 to 2, flag 0 or 1. A bad station's three bytes are 255.", and "The flag is 1 when the grade is below 2."
 pub record OutcomeBytes (n : ℕ) (bad : ℕ → Bool) (bytes : List ℕ) : Type 0 where

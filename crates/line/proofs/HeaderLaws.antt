@@ -1,15 +1,14 @@
 -- Laws of the judgement: nothing is refused exactly if every number is as document 01 wants it. Assumes nothing.
-use Prim.Native.Nat.{ℕ, _+_, _*_, _≤_, _<_}
-use mathlib.Core.Path.{_≡_, refl, ap, _∙_}
+use Prim.Native.Nat.{ℕ, _+_, _*_, _≤_}
+use mathlib.Core.Path.{_≡_, refl}
 use mathlib.Core.Bool.{Bool, true, false, _||_}
 use native.Mathlib.Omega.{arith}
 use lib.Dec.{leb, ltb}
 use borrow.Author.Tests.{leb-false, ltb-false, le-ltb, lt-leb}
-use Rattle.line.specs.Count.{if_then_else_}
 use Rattle.line.specs.Line.{Fits, most-stations}
 use Rattle.line.specs.Marks.{marked}
 use Rattle.line.specs.Cause.{refused-if, _or-else_}
-use Rattle.line.specs.Header.{outside, exceeded, mark-beyond, station-count, thresholds, station-number, bit, marks-within, line-verdict, header-verdict, Sound}
+use Rattle.line.specs.Header.{outside, exceeded, mark-beyond, station-count, thresholds, station-number, bit, marks-within, header-verdict, Sound}
 use Rattle.line.specs.declared.cause.Cause.{Cause}
 use Rattle.line.specs.declared.cause.Verdict.{Verdict}
 use Rattle.line.specs.declared.cause.Verdict.the-variants.{Accepted, Refused}
