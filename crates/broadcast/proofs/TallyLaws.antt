@@ -10,7 +10,7 @@ use lib.Dec.{eqb}
 use borrow.Author.Tests.{eqb-true, lt-ltb, le-ltb, le-leb, lt-leb, eq-eqb, ne-eqb}
 use Rattle.line.specs.Count.{if_then_else_, count}
 use Rattle.line.specs.Ballot.{blank, read-first, read-second, read-king}
-use Rattle.line.proofs.CountLaws.{if-true, if-false, le-or-lt, count-same, count-none, cover, mono, disjoint}
+use Rattle.line.proofs.CountLaws.{if-true, if-false, le-or-lt, count-zero, count-hit, count-miss, count-le, count-same, count-none, cover, mono, disjoint}
 use Rattle.line.proofs.BallotLaws.{read-first-keeps, read-second-keeps, read-second-bound, read-second-because, read-king-keeps, read-king-bit}
 use Rattle.broadcast.specs.Exchange.{Row, tally, firsts, seconds, z-of, y-of, grade-of, flag-of}
 use Rattle.broadcast.specs.Broadcast.{obey}
@@ -86,6 +86,58 @@ module _ (n : ℕ) (row : Row) where
   unfolding seconds
   seconds-high v bad p h =
       tally-high read-second n row v bad p (λ k l b e. h k l b .1 (sym (read-second-keeps (row k) (h k l b .0)) ∙ e))
+
+-- ---- one ballot more, as a loop counts
+
+module _ (read : ℕ → ℕ) (v : ℕ) (row : Row) where
+  tally-none : tally read 0 v row ≡ 0
+  unfolding tally
+  tally-none = count-zero _
+
+  tally-hit : (i : ℕ) → read (row i) ≡ v → tally read (i + 1) v row ≡ tally read i v row + 1
+  unfolding tally
+  tally-hit i e = count-hit i _ (eq-eqb (read (row i)) v e)
+
+  tally-miss : (i : ℕ) → read (row i) ≢ v → tally read (i + 1) v row ≡ tally read i v row
+  unfolding tally
+  tally-miss i e = count-miss i _ (ne-eqb (read (row i)) v e)
+
+  tally-le : (n : ℕ) → tally read n v row ≤ n
+  unfolding tally
+  tally-le n = count-le n _
+
+module _ (v : ℕ) (row : Row) where
+  pub firsts-none : firsts 0 v row ≡ 0
+  unfolding firsts
+  firsts-none = tally-none read-first v row
+
+  pub firsts-hit : (i : ℕ) → read-first (row i) ≡ v → firsts (i + 1) v row ≡ firsts i v row + 1
+  unfolding firsts
+  firsts-hit = tally-hit read-first v row
+
+  pub firsts-miss : (i : ℕ) → read-first (row i) ≢ v → firsts (i + 1) v row ≡ firsts i v row
+  unfolding firsts
+  firsts-miss = tally-miss read-first v row
+
+  pub firsts-le : (n : ℕ) → firsts n v row ≤ n
+  unfolding firsts
+  firsts-le = tally-le read-first v row
+
+  pub seconds-none : seconds 0 v row ≡ 0
+  unfolding seconds
+  seconds-none = tally-none read-second v row
+
+  pub seconds-hit : (i : ℕ) → read-second (row i) ≡ v → seconds (i + 1) v row ≡ seconds i v row + 1
+  unfolding seconds
+  seconds-hit = tally-hit read-second v row
+
+  pub seconds-miss : (i : ℕ) → read-second (row i) ≢ v → seconds (i + 1) v row ≡ seconds i v row
+  unfolding seconds
+  seconds-miss = tally-miss read-second v row
+
+  pub seconds-le : (n : ℕ) → seconds n v row ≤ n
+  unfolding seconds
+  seconds-le = tally-le read-second v row
 
 -- ---- each step in plain facts, as document 01 has it
 
