@@ -3,12 +3,12 @@ use Prim.Native.Nat.{ℕ, _+_, _*_, _≤_}
 use mathlib.Core.Path.{_≡_, refl}
 use mathlib.Core.Bool.{Bool, true, false, _||_}
 use native.Mathlib.Omega.{arith}
-use lib.Dec.{leb, ltb}
-use borrow.Author.Tests.{leb-false, ltb-false, le-ltb, lt-leb}
+use lib.Dec.{leb, ltb, eqb}
+use borrow.Author.Tests.{leb-false, ltb-false, le-ltb, lt-leb, eqb-true, not-false}
 use Rattle.line.specs.Line.{Fits, most-stations}
 use Rattle.line.specs.Marks.{marked}
 use Rattle.line.specs.Cause.{refused-if, _or-else_}
-use Rattle.line.specs.Header.{outside, exceeded, mark-beyond, station-count, thresholds, station-number, bit, marks-within, header-verdict, Sound}
+use Rattle.line.specs.Header.{outside, exceeded, mark-beyond, station-count, thresholds, station-number, bit, marks-within, exact-length, header-verdict, Sound}
 use Rattle.line.specs.declared.cause.Cause.{Cause}
 use Rattle.line.specs.declared.cause.Verdict.{Verdict}
 use Rattle.line.specs.declared.cause.Verdict.the-variants.{Accepted, Refused}
@@ -62,6 +62,11 @@ fitting n t T e =
 pub fitting-not : (n t T : ℕ) → Fits n t T → exceeded n t T ≡ false
 unfolding exceeded
 fitting-not n t T f = rw (le-ltb T t (f .order), lt-leb n (t + 2 * T) (f .room))
+
+-- a length that is not refused is the one wanted
+pub length-exact : (wanted found : ℕ) → exact-length wanted found ≡ Accepted → found ≡ wanted
+unfolding exact-length
+length-exact wanted found e = eqb-true found wanted (not-false (eqb found wanted) (accepted-false _ _ e))
 
 within-not : (n marks : ℕ) → ((i : ℕ) → n ≤ i → marked marks i ≡ false) → mark-beyond n marks ≡ false
 within-not n marks h = go (mark-beyond n marks) refl

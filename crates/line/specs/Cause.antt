@@ -1,6 +1,7 @@
 -- The causes of refusal by their numbers, and which of several is given (document 01, "Refused causes").
 use Prim.Native.Nat.{ℕ}
 use mathlib.Core.Bool.{Bool}
+use mathlib.Core.List.{List}
 use Rattle.line.specs.Count.{if_then_else_}
 use Rattle.line.specs.declared.cause.Cause.{Cause}
 use Rattle.line.specs.declared.cause.Cause.the-variants.{SheetForm, StationCount, Thresholds, StationNumber, Value, MarkBeyond, StationState, Length, ChainLeaves, ChainRepeats, RecordForm, UnmarkedSender, Duplicate}
@@ -37,3 +38,8 @@ infixr 5 _or-else_
 abbrev pub _or-else_ : Verdict → Verdict → Verdict
 Accepted or-else next = next
 (Refused c) or-else next = Refused c
+
+-- the table's column "Left as it was": what a lent buffer holds at exit, where an accepted call fills it with `new`
+abbrev pub written : Verdict → List ℕ → List ℕ → List ℕ
+written Accepted new old = new
+written (Refused c) new old = old

@@ -1,12 +1,13 @@
--- The judgement of a header's numbers: causes 2 to 6 of document 01's table, each a test of its own, in the table's order.
+-- The judgement of a header's numbers: causes 2 to 6 of document 01's table, each a test of its own, in the table's order; and of a length,
+-- cause 8.
 use Prim.Native.Nat.{ℕ, _+_, _*_, _^_, _≤_}
 use mathlib.Core.Path.{_≡_}
-use mathlib.Core.Bool.{Bool, false, _||_}
-use lib.Dec.{leb, ltb}
+use mathlib.Core.Bool.{Bool, false, not, _||_}
+use lib.Dec.{leb, ltb, eqb}
 use Rattle.line.specs.Line.{most-stations, Fits}
 use Rattle.line.specs.Marks.{marked}
 use Rattle.line.specs.Cause.{refused-if, _or-else_}
-use Rattle.line.specs.declared.cause.Cause.the-variants.{StationCount, Thresholds, StationNumber, Value, MarkBeyond}
+use Rattle.line.specs.declared.cause.Cause.the-variants.{StationCount, Thresholds, StationNumber, Value, MarkBeyond, Length}
 use Rattle.line.specs.declared.cause.Verdict.{Verdict}
 
 -- below low or above high
@@ -38,6 +39,10 @@ mark-beyond n marks = leb (2 ^ n) marks
 
 unfoldable pub marks-within : ℕ → ℕ → Verdict
 marks-within n marks = refused-if (mark-beyond n marks) MarkBeyond
+
+-- cause 8, of one length: "a lent table, log, outcome, input or row not of its exact length"
+unfoldable pub exact-length : ℕ → ℕ → Verdict
+exact-length wanted found = refused-if (not (eqb found wanted)) Length
 
 -- causes 2 and 3
 unfoldable pub line-verdict : ℕ → ℕ → ℕ → Verdict

@@ -1,6 +1,6 @@
-// The judgement of a header's numbers: causes 2 to 6, the lowest first.
+// The judgement of a header's numbers, causes 2 to 6, the lowest first; and of a length, cause 8.
 ghost use mathlib.Core.Path.{_≡_};
-ghost use Rattle.line.specs.Header.{outside, exceeded, mark-beyond, station-count, thresholds, station-number, bit, marks-within, line-verdict, header-verdict};
+ghost use Rattle.line.specs.Header.{outside, exceeded, mark-beyond, station-count, thresholds, station-number, bit, marks-within, exact-length, line-verdict, header-verdict};
 use crate::Line;
 use crate::cause::Cause;
 use crate::cause::Verdict;
@@ -66,6 +66,13 @@ pub fn marks_within(n: u8, marks: u32) -> Verdict
     ensures { λ r. ⌜ r ≡ marks-within n marks ⌝ }
 {
     Verdict::refused_if(mark_beyond(n, marks), Cause::MarkBeyond)
+}
+
+// Cause 8, of one length.
+pub fn exact_length(wanted: usize, found: usize) -> Verdict
+    ensures { λ r. ⌜ r ≡ exact-length wanted found ⌝ }
+{
+    Verdict::refused_if(found != wanted, Cause::Length)
 }
 
 // Causes 2 and 3.
