@@ -38,7 +38,7 @@ pub both-accepted : (a b : Verdict) → a or-else b ≡ Accepted → (a ≡ Acce
 both-accepted Accepted b e = (refl, e)
 both-accepted (Refused c) b e = never e
 
-neither : (a b : Bool) → a || b ≡ false → (a ≡ false) × (b ≡ false)
+pub neither : (a b : Bool) → a || b ≡ false → (a ≡ false) × (b ≡ false)
 neither false b e = (refl, e)
 neither true b e = let z : true ≡ false = e in (z, cc)
 

@@ -1,0 +1,88 @@
+-- A station that is not refused is as document 01 wants it. Assumes nothing.
+use Prim.Native.Nat.{ℕ, zero, suc, _+_, _-_, _/_, _%_, _≤_, _<_}
+use mathlib.Core.Path.{_≡_, refl}
+use mathlib.Core.List.{List}
+use mathlib.Core.Logic.{_⊎_, inl, inr}
+use native.Mathlib.Omega.{arith}
+use lib.ListN.{length}
+use borrow.Author.Tests.{ltb-false, eqb-false}
+use Rattle.line.specs.Line.{rounds, most-stations}
+use Rattle.line.specs.Header.{station-count, thresholds, station-number}
+use Rattle.line.specs.declared.cause.Verdict.the-variants.{Accepted}
+use Rattle.line.proofs.CountLaws.{le-or-lt}
+use Rattle.line.proofs.HeaderLaws.{both-accepted, accepted-false, neither, inside, fitting, length-exact}
+use Rattle.station.specs.declared.Station.{Station}
+use Rattle.station.specs.Judgement.{foreign-state, is-done, state-verdict, station-verdict, telling-verdict, taking-verdict, Sound, Ready}
+
+pub sound : (s : Station) → station-verdict s ≡ Accepted → Sound s
+unfolding station-verdict station-count thresholds station-number state-verdict foreign-state
+sound s e =
+    let (a, e₂) = both-accepted _ _ e in
+    let (b, e₃) = both-accepted _ _ e₂ in
+    let (c, e₄) = both-accepted _ _ e₃ in
+    let (d, f) = both-accepted _ _ e₄ in
+    let (r, f₂) = neither _ _ (accepted-false _ _ f) in
+    let (v, f₃) = neither _ _ f₂ in
+    let (z, g) = neither _ _ f₃ in
+    let sender = inside 1 (s .n) (s .sender) (accepted-false _ _ c) in
+    let own = inside 1 (s .n) (s .own) (accepted-false _ _ d) in
+    let round = inside 1 (rounds (s .t) + 1) (s .round) r in
+    record {
+      most = inside 1 most-stations (s .n) (accepted-false _ _ a) .1;
+      fits = fitting (s .n) (s .t) (s .upper) (accepted-false _ _ b);
+      sender-low = sender .0;
+      sender-high = sender .1;
+      own-low = own .0;
+      own-high = own .1;
+      round-low = round .0;
+      round-high = round .1;
+      value-bit = ltb-false 1 (s .value) v;
+      z-high = ltb-false 2 (s .z) z;
+      grade-high = ltb-false 2 (s .grade) g;
+    }
+
+pub telling-sound : (s : Station) → telling-verdict s ≡ Accepted → Sound s × (s .round ≤ rounds (s .t))
+unfolding telling-verdict is-done
+telling-sound s e =
+    let (a, b) = both-accepted _ _ e in
+    let h = sound s a in
+    let other = eqb-false (s .round) (rounds (s .t) + 1) (accepted-false _ _ b) in
+    (h, omega (arith, h .round-high, lt-or-eq (s .round) (rounds (s .t) + 1) (h .round-high) other))
+  where
+    lt-or-eq : (a b : ℕ) → a ≤ b → (a ≡ b → ⊥) → a + 1 ≤ b
+    lt-or-eq a b h ne = go (le-or-lt b a)
+      where
+        go : (b ≤ a) ⊎ (a < b) → a + 1 ≤ b
+        go (inl k) = absurd (ne (omega arith))
+        go (inr k) = omega arith
+
+pub ready : (s : Station) (row : List ℕ) → taking-verdict s (length row) ≡ Accepted → Ready s row
+unfolding taking-verdict
+ready s row e =
+    let (a, b) = both-accepted _ _ e in
+    let (h, k) = telling-sound s a in
+    record { sound = h; round-left = k; whole = length-exact (s .n) (length row) b }
+
+pub positive : (g : ℕ) → (g ≡ 0 → ⊥) → 1 ≤ g
+positive zero ne = absurd (ne refl)
+positive (suc g) ne = omega arith
+
+-- ---- a king's round, by the tests that failed
+
+pub king-turn : (r : ℕ) → (r % 3 ≡ 2 → ⊥) → (r % 3 ≡ 0 → ⊥) → r % 3 ≡ 1
+king-turn r two none = go (r % 3) refl
+  where
+    go : (d : ℕ) → r % 3 ≡ d → r % 3 ≡ 1
+    go zero q = absurd (none q)
+    go (suc zero) q = q
+    go (suc (suc zero)) q = absurd (two q)
+    go (suc (suc (suc d))) q = absurd (omega arith)
+
+pub king-late : (r : ℕ) → 1 ≤ r → (r ≡ 1 → ⊥) → r % 3 ≡ 1 → 2 < r
+king-late zero a one q = absurd (omega arith)
+king-late (suc zero) a one q = absurd (one refl)
+king-late (suc (suc r)) a one q = omega arith
+
+-- the station that is the king counted from 0 has the king's number
+pub king-number : (r own : ℕ) → 1 ≤ own → 1 ≤ r → (r ≡ 1 → ⊥) → (r % 3 ≡ 2 → ⊥) → (r % 3 ≡ 0 → ⊥) → own - 1 ≡ r / 3 - 1 → own ≡ r / 3
+king-number r own a b one two none e = omega (arith, king-late r b one (king-turn r two none))

@@ -1,0 +1,75 @@
+-- The station's struct as the automaton of crate broadcast: what stays (Setup) and what changes (State). The struct numbers stations from 1, the
+-- automaton from 0.
+use Prim.Native.Nat.{ℕ, _-_}
+use mathlib.Core.List.{List}
+use lib.ListN.{length}
+use Rattle.line.specs.Ballot.{silence}
+use Rattle.line.specs.declared.cause.Verdict.{Verdict}
+use Rattle.line.specs.declared.cause.Verdict.the-variants.{Accepted, Refused}
+use Rattle.broadcast.specs.Station.{Setup, State, opened, ballot, advance, Result, running, done, result, at}
+use Rattle.station.specs.declared.Station.{Station}
+use Rattle.station.specs.declared.Outcome.{Outcome}
+use Rattle.station.specs.declared.Outcome.the-variants.{Running, Done}
+use Rattle.station.specs.Judgement.{telling-verdict, taking-verdict}
+
+abbrev pub setup-of : Station → Setup
+setup-of s = record { n = s .n; t = s .t; T = s .upper; sender = s .sender - 1; own = s .own - 1 }
+
+abbrev pub state-of : Station → State
+state-of s = record { round = s .round; value = s .value; z = s .z; grade = s .grade }
+
+-- the same station in another state
+abbrev pub in-state : Station → State → Station
+in-state s st = record {
+  n = s .n;
+  t = s .t;
+  upper = s .upper;
+  sender = s .sender;
+  own = s .own;
+  round = st .round;
+  value = st .value;
+  z = st .z;
+  grade = st .grade;
+}
+
+-- a station with these numbers in a state
+abbrev pub station-in : ℕ → ℕ → ℕ → ℕ → ℕ → State → Station
+station-in n t T sender own st = record {
+  n = n;
+  t = t;
+  upper = T;
+  sender = sender;
+  own = own;
+  round = st .round;
+  value = st .value;
+  z = st .z;
+  grade = st .grade;
+}
+
+unfoldable pub opened-station : ℕ → ℕ → ℕ → ℕ → ℕ → ℕ → Station
+opened-station n t T sender own value = station-in n t T sender own (opened value)
+
+-- the automaton's result as the call's answer
+abbrev pub as-outcome : Result → Outcome
+as-outcome (running r) = Running r
+as-outcome (done v g f) = Done v g f
+
+unfoldable pub outcome-of : Station → Outcome
+outcome-of s = as-outcome (result (setup-of s) (state-of s))
+
+-- the ballot, silence where it is refused
+abbrev pub spoken-if : Verdict → ℕ → ℕ
+spoken-if Accepted b = b
+spoken-if (Refused c) b = silence
+
+unfoldable pub ballot-or-silence : Station → ℕ
+ballot-or-silence s = spoken-if (telling-verdict s) (ballot (setup-of s) (state-of s))
+
+-- the station after a row, the same where it is refused
+abbrev pub moved-if : Verdict → Station → Station → Station
+moved-if Accepted new old = new
+moved-if (Refused c) new old = old
+
+unfoldable pub advanced-or-same : Station → List ℕ → Station
+advanced-or-same s row =
+    moved-if (taking-verdict s (length row)) (in-state s (advance (setup-of s) (state-of s) (at row))) s

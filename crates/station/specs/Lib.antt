@@ -1,0 +1,5 @@
+-- One station's calls (document 01, "One station" and "Refused causes"). Judgement: what is refused. Automaton: the struct as the automaton of crate
+-- broadcast. Answers: what each call promises.
+pub mod Judgement
+pub mod Automaton
+pub mod Answers

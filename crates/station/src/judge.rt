@@ -1,0 +1,92 @@
+// What is refused: causes 2, 3, 4, 5, 7 and 8, the lowest first.
+ghost use mathlib.Core.Path.{_≡_};
+ghost use Prim.Native.Nat.{_+_, _*_};
+ghost use Rattle.station.specs.Judgement.{foreign-state, is-done, state-verdict, station-verdict, telling-verdict, taking-verdict, opening-verdict};
+use crate::Station;
+use line::cause::Cause;
+use line::cause::Verdict;
+use line::header;
+
+// R + 1, computed where it never wraps.
+fn last_round(t: u8) -> usize
+    ensures { λ r. ⌜ r ≡ 3 * t + 7 ⌝ }
+{
+    3 * (t as usize) + 7
+}
+
+// A round outside 1 to R + 1, a value above 1, z or grade above 2.
+fn foreign_state(t: u8, round: u8, value: u8, z: u8, grade: u8) -> bool
+    ensures { λ r. ⌜ r ≡ foreign-state t round value z grade ⌝ }
+{
+    if round < 1 {
+        return true;
+    }
+    if last_round(t) < round as usize {
+        return true;
+    }
+    if 1 < value {
+        return true;
+    }
+    if 2 < z {
+        return true;
+    }
+    2 < grade
+}
+
+pub(crate) fn is_done(t: u8, round: u8) -> bool
+    ensures { λ r. ⌜ r ≡ is-done t round ⌝ }
+{
+    round as usize == last_round(t)
+}
+
+// Cause 7 of a station's state.
+fn state(s: Station) -> Verdict
+    ensures { λ r. ⌜ r ≡ state-verdict s ⌝ }
+{
+    Verdict::refused_if(
+        foreign_state(s.t, s.round, s.value, s.z, s.grade),
+        Cause::StationState,
+    )
+}
+
+// Causes 2, 3, 4 and 7 of a station's content.
+pub(crate) fn station(s: Station) -> Verdict
+    ensures { λ r. ⌜ r ≡ station-verdict s ⌝ }
+{
+    let a = header::station_count(s.n);
+    let b = header::thresholds(s.n, s.t, s.upper);
+    let c = header::station_number(s.n, s.sender);
+    let d = header::station_number(s.n, s.own);
+    let e = state(s);
+    a.or_else(b.or_else(c.or_else(d.or_else(e))))
+}
+
+// .. and 7 where a ballot is wanted of a done station.
+pub(crate) fn telling(s: Station) -> Verdict
+    ensures { λ r. ⌜ r ≡ telling-verdict s ⌝ }
+{
+    let a = station(s);
+    let b = Verdict::refused_if(is_done(s.t, s.round), Cause::StationState);
+    a.or_else(b)
+}
+
+// .. and 8 for a row of another length than n.
+pub(crate) fn taking(s: Station, row: usize) -> Verdict
+    ensures { λ r. ⌜ r ≡ taking-verdict s row ⌝ }
+{
+    let a = telling(s);
+    let b = header::exact_length(s.n as usize, row);
+    a.or_else(b)
+}
+
+// Causes 2, 3, 4 and 5 of what a station is opened with.
+pub(crate) fn opening(n: u8, t: u8, upper: u8, sender: u8, own: u8, value: u8) -> Verdict
+    ensures { λ r. ⌜ r ≡ opening-verdict n t upper sender own value ⌝ }
+{
+    let a = header::station_count(n);
+    let b = header::thresholds(n, t, upper);
+    let c = header::station_number(n, sender);
+    let d = header::station_number(n, own);
+    let e = header::bit(value);
+    a.or_else(b.or_else(c.or_else(d.or_else(e))))
+}

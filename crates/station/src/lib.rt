@@ -1,0 +1,115 @@
+// One station as it runs in a bonder, by value: opened, asked for its ballot, handed the row that it received, asked for its result.
+ghost use mathlib.Core.Path.{_≡_};
+ghost use Prim.Native.Nat.{ℕ, _+_, _-_, _/_, _≤_, _<_};
+ghost use lib.ListN.{length};
+ghost use Rattle.station.specs.Answers.{Opens, Tells, Advances, Results};
+ghost use Rattle.station.specs.Automaton.{ballot-or-silence, advanced-or-same};
+use line::cause::Cause;
+use line::cause::Verdict;
+
+mod judge;
+mod step;
+
+// What a station is opened with, and its state. Stations are numbered from 1. Any bytes may stand in it: each call judges them.
+pub struct Station {
+    pub n: u8,
+    pub t: u8,
+    pub upper: u8,
+    pub sender: u8,
+    pub own: u8,
+    pub round: u8,
+    pub value: u8,
+    pub z: u8,
+    pub grade: u8,
+}
+
+// The answer to opening.
+pub enum Opened {
+    Ready(Station),
+    Refused(Cause),
+}
+
+// The answer to asking for the ballot of the current round.
+pub enum Told {
+    Ballot(u8),
+    Refused(Cause),
+}
+
+// The answer to handing over a row.
+pub enum Advanced {
+    Next(Station),
+    Refused(Cause),
+}
+
+// The answer to asking for the result.
+pub enum Outcome {
+    Running(u8),
+    Done { value: u8, grade: u8, flag: u8 },
+    Refused(Cause),
+}
+
+// A station with its number, before round 1. The value matters only at the sender, and is judged at every station.
+pub fn open(n: u8, t: u8, upper: u8, sender: u8, own: u8, value: u8) -> Opened
+    ensures { λ r. ⌜ Opens n t upper sender own value r ⌝ }
+{
+    let verdict = judge::opening(n, t, upper, sender, own, value);
+    match verdict {
+        Verdict::Accepted => Opened::Ready(step::opened(n, t, upper, sender, own, value)),
+        Verdict::Refused(c) => Opened::Refused(c),
+    }
+}
+
+// The ballot for the current round, 255 if the station doesn't speak.
+pub fn ballot(s: Station) -> Told
+    ensures { λ r. ⌜ Tells s r ⌝ }
+{
+    let verdict = judge::telling(s);
+    match verdict {
+        Verdict::Accepted => Told::Ballot(step::tell(s)),
+        Verdict::Refused(c) => Told::Refused(c),
+    }
+}
+
+// The station after the row that it received in the current round.
+pub fn advance(s: Station, row: &[u8]) -> Advanced
+    ensures { λ r. ⌜ Advances s (now (row .entry)) r ⌝ }
+{
+    let verdict = judge::taking(s, row.len());
+    match verdict {
+        Verdict::Accepted => Advanced::Next(step::step(s, row)),
+        Verdict::Refused(c) => Advanced::Refused(c),
+    }
+}
+
+// Running with its round, or done with value, grade and flag.
+pub fn result(s: Station) -> Outcome
+    ensures { λ r. ⌜ Results s r ⌝ }
+{
+    let verdict = judge::station(s);
+    match verdict {
+        Verdict::Accepted => step::outcome(s),
+        Verdict::Refused(c) => Outcome::Refused(c),
+    }
+}
+
+// The ballot, or silence where `ballot` refuses.
+pub fn ballot_or_silence(s: Station) -> u8
+    ensures { λ r. ⌜ r ≡ ballot-or-silence s ⌝ }
+{
+    let verdict = judge::telling(s);
+    match verdict {
+        Verdict::Accepted => step::tell(s),
+        Verdict::Refused(_) => 255,
+    }
+}
+
+// The station after the row, or the same station where `advance` refuses.
+pub fn advance_or_stay(s: Station, row: &[u8]) -> Station
+    ensures { λ r. ⌜ r ≡ advanced-or-same s (now (row .entry)) ⌝ }
+{
+    let verdict = judge::taking(s, row.len());
+    match verdict {
+        Verdict::Accepted => step::step(s, row),
+        Verdict::Refused(_) => s,
+    }
+}
