@@ -28,7 +28,7 @@ unfolding tabulate
 length-tabulate zero f = refl
 length-tabulate (suc m) f = ap suc (length-tabulate m (λ k. f (suc k)))
 
-getD-tabulate : (m : ℕ) (f : ℕ → ℕ) (k : ℕ) → k < m → getD (tabulate m f) k 0 ≡ f k
+pub getD-tabulate : (m : ℕ) (f : ℕ → ℕ) (k : ℕ) → k < m → getD (tabulate m f) k 0 ≡ f k
 unfolding tabulate
 getD-tabulate zero f k h = absurd (omega arith)
 getD-tabulate (suc m) f zero h = refl

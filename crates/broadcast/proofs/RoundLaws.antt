@@ -1,14 +1,18 @@
 -- The parts of a broadcast, and what a station does in them, by the tests that code makes of a round. Assumes nothing.
-use Prim.Native.Nat.{ℕ, _-_, _/_, _%_}
-use mathlib.Core.Path.{_≡_, ap}
+use Prim.Native.Nat.{ℕ, zero, suc, _+_, _-_, _/_, _%_, _≤_}
+use mathlib.Core.Path.{_≡_, refl, ap, _∙_}
 use mathlib.Core.Logic.{_≢_}
+use mathlib.Core.List.{List}
+use native.Mathlib.Omega.{arith}
 use lib.Dec.{eqb}
 use borrow.Author.Tests.{eq-eqb, ne-eqb}
 use Rattle.line.specs.Count.{if_then_else_}
 use Rattle.line.specs.Ballot.{silence}
 use Rattle.broadcast.specs.Exchange.{Row}
 use Rattle.broadcast.specs.Broadcast.{Part, from-sender, first-of, second-of, from-king, part, speaks}
-use Rattle.broadcast.specs.Station.{Setup, State, held, ballot, taken, advance}
+use Rattle.broadcast.specs.Station.{Setup, State, opened, held, ballot, next, taken, advance, at, after}
+use Rattle.line.proofs.BallotLaws.{read-sender-bit}
+use Rattle.broadcast.proofs.TallyLaws.{z-bound, y-bit, grade-bound, obey-bit}
 
 module _ (r : ℕ) where
   pub is-sender : r ≡ 1 → part r ≡ from-sender
@@ -48,3 +52,39 @@ module _ (c : Setup) (s : State) where
   pub advance-by : {q : Part} (row : Row) → part (s .round) ≡ q → advance c s row ≡ taken c s row q
   unfolding advance
   advance-by row e = ap (taken c s row) e
+
+-- ---- after any rows: the round counts them, and value, z and grade are in their ranges
+
+pub record InRange (s : State) : Type 0 where
+  pub value-bit : s .value ≤ 1
+  pub z-high : s .z ≤ 2
+  pub grade-high : s .grade ≤ 2
+
+taken-range : (c : Setup) (s : State) (row : Row) → InRange s → (q : Part) → InRange (taken c s row q)
+unfolding taken next
+taken-range c s row h from-sender =
+    record { value-bit = read-sender-bit (row (c .sender)); z-high = h .z-high; grade-high = h .grade-high }
+taken-range c s row h (first-of p) =
+    record { value-bit = h .value-bit; z-high = z-bound (c .n) (c .T) (s .value) row (h .value-bit); grade-high = h .grade-high }
+taken-range c s row h (second-of p) =
+    record { value-bit = y-bit (c .n) row; z-high = h .z-high; grade-high = grade-bound (c .n) (c .t) (c .T) _ }
+taken-range c s row h (from-king p) =
+    record { value-bit = obey-bit (s .grade) (s .value) (row p) (h .value-bit); z-high = h .z-high; grade-high = h .grade-high }
+
+taken-round : (c : Setup) (s : State) (row : Row) (q : Part) → taken c s row q .round ≡ s .round + 1
+unfolding taken next
+taken-round c s row from-sender = refl
+taken-round c s row (first-of p) = refl
+taken-round c s row (second-of p) = refl
+taken-round c s row (from-king p) = refl
+
+module _ (c : Setup) (v : ℕ) (rows : ℕ → List ℕ) where
+  pub after-range : v ≤ 1 → (m : ℕ) → InRange (after c v rows m)
+  unfolding after opened advance
+  after-range h zero = record { value-bit = h; z-high = omega arith; grade-high = omega arith }
+  after-range h (suc m) = taken-range c (after c v rows m) (at (rows (suc m))) (after-range h m) _
+
+  pub after-round : (m : ℕ) → after c v rows m .round ≡ suc m
+  unfolding after opened advance
+  after-round zero = refl
+  after-round (suc m) = taken-round c (after c v rows m) (at (rows (suc m))) _ ∙ omega (arith, after-round m)

@@ -4,7 +4,7 @@ use mathlib.Core.Path.{_≡_, refl}
 use mathlib.Core.Bool.{Bool, true, false, _||_}
 use native.Mathlib.Omega.{arith}
 use lib.Dec.{leb, ltb, eqb}
-use borrow.Author.Tests.{leb-false, ltb-false, le-ltb, lt-leb, eqb-true, not-false}
+use borrow.Author.Tests.{leb-false, ltb-false, le-ltb, lt-leb, eqb-true, eq-eqb, not-false}
 use Rattle.line.specs.Line.{Fits, most-stations}
 use Rattle.line.specs.Marks.{marked}
 use Rattle.line.specs.Cause.{refused-if, _or-else_}
@@ -75,6 +75,32 @@ within-not n marks h = go (mark-beyond n marks) refl
     go false e = refl
     go true e = let (i, l, m) = beyond-some n marks e in let g : marked marks i ≡ false = h i l in cc
 
+-- ---- each verdict, where its number is as it should be
+
+pub count-accepts : (n : ℕ) → 1 ≤ n → n ≤ most-stations → station-count n ≡ Accepted
+unfolding station-count
+count-accepts n a b = refused-false _ (inside-not 1 most-stations n a b)
+
+pub thresholds-accept : (n t T : ℕ) → Fits n t T → thresholds n t T ≡ Accepted
+unfolding thresholds
+thresholds-accept n t T f = refused-false _ (fitting-not n t T f)
+
+pub number-accepts : (n i : ℕ) → 1 ≤ i → i ≤ n → station-number n i ≡ Accepted
+unfolding station-number
+number-accepts n i a b = refused-false _ (inside-not 1 n i a b)
+
+pub bit-accepts : (v : ℕ) → v ≤ 1 → bit v ≡ Accepted
+unfolding bit
+bit-accepts v h = refused-false _ (le-ltb 1 v h)
+
+marks-accept : (n marks : ℕ) → ((i : ℕ) → n ≤ i → marked marks i ≡ false) → marks-within n marks ≡ Accepted
+unfolding marks-within
+marks-accept n marks h = refused-false _ (within-not n marks h)
+
+pub length-accepts : (wanted found : ℕ) → found ≡ wanted → exact-length wanted found ≡ Accepted
+unfolding exact-length
+length-accepts wanted found e = refused-false _ (rw (eq-eqb found wanted e))
+
 -- ---- the whole header
 
 module _ (n t T sender value marks : ℕ) where
@@ -100,7 +126,6 @@ module _ (n t T sender value marks : ℕ) where
 
   -- every number is as it should be: nothing is refused
   pub header-accepts : Sound n t T sender value marks → header-verdict n t T sender value marks ≡ Accepted
-  unfolding header-verdict station-count thresholds station-number bit marks-within
+  unfolding header-verdict
   header-accepts s =
-      rw (inside-not 1 most-stations n (s .some) (s .most), fitting-not n t T (s .fits), inside-not 1 n sender (s .sender-low) (s .sender-high), le-ltb 1 value (s .value-bit), within-not n marks (s .within))
-      (simp refused-false)
+      rw (count-accepts n (s .some) (s .most), thresholds-accept n t T (s .fits), number-accepts n sender (s .sender-low) (s .sender-high), bit-accepts value (s .value-bit), marks-accept n marks (s .within))

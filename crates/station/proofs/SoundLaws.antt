@@ -5,14 +5,15 @@ use mathlib.Core.List.{List}
 use mathlib.Core.Logic.{_⊎_, inl, inr}
 use native.Mathlib.Omega.{arith}
 use lib.ListN.{length}
-use borrow.Author.Tests.{ltb-false, eqb-false}
+use borrow.Author.Tests.{ltb-false, eqb-false, le-ltb, ne-eqb}
 use Rattle.line.specs.Line.{rounds, most-stations}
 use Rattle.line.specs.Header.{station-count, thresholds, station-number}
 use Rattle.line.specs.declared.cause.Verdict.the-variants.{Accepted}
 use Rattle.line.proofs.CountLaws.{le-or-lt}
-use Rattle.line.proofs.HeaderLaws.{both-accepted, accepted-false, neither, inside, fitting, length-exact}
+use Rattle.line.specs.Header as header
+use Rattle.line.proofs.HeaderLaws.{both-accepted, accepted-false, refused-false, neither, inside, inside-not, fitting, length-exact, count-accepts, thresholds-accept, number-accepts, bit-accepts, length-accepts}
 use Rattle.station.specs.declared.Station.{Station}
-use Rattle.station.specs.Judgement.{foreign-state, is-done, state-verdict, station-verdict, telling-verdict, taking-verdict, Sound, Ready}
+use Rattle.station.specs.Judgement.{foreign-state, is-done, state-verdict, station-verdict, telling-verdict, taking-verdict, opening-verdict, Sound, Ready}
 
 pub sound : (s : Station) → station-verdict s ≡ Accepted → Sound s
 unfolding station-verdict station-count thresholds station-number state-verdict foreign-state
@@ -62,6 +63,31 @@ ready s row e =
     let (a, b) = both-accepted _ _ e in
     let (h, k) = telling-sound s a in
     record { sound = h; round-left = k; whole = length-exact (s .n) (length row) b }
+
+-- ---- and a station that is as document 01 wants it is not refused
+
+pub sound-accepts : (s : Station) → Sound s → station-verdict s ≡ Accepted
+unfolding station-verdict state-verdict foreign-state
+sound-accepts s h =
+    rw (count-accepts (s .n) (omega (arith, h .fits)) (h .most), thresholds-accept (s .n) (s .t) (s .upper) (h .fits), number-accepts (s .n) (s .sender) (h .sender-low) (h .sender-high), number-accepts (s .n) (s .own) (h .own-low) (h .own-high), inside-not 1 (rounds (s .t) + 1) (s .round) (h .round-low) (h .round-high), le-ltb 1 (s .value) (h .value-bit), le-ltb 2 (s .z) (h .z-high), le-ltb 2 (s .grade) (h .grade-high))
+    (refused-false _ refl)
+
+pub telling-accepts : (s : Station) → Sound s → s .round ≤ rounds (s .t) → telling-verdict s ≡ Accepted
+unfolding telling-verdict is-done
+telling-accepts s h l =
+    rw (sound-accepts s h, ne-eqb (s .round) (rounds (s .t) + 1) (λ e. omega arith)) (refused-false _ refl)
+
+pub taking-accepts : (s : Station) (row : List ℕ) → Ready s row → taking-verdict s (length row) ≡ Accepted
+unfolding taking-verdict
+taking-accepts s row h = rw (telling-accepts s (h .sound) (h .round-left), length-accepts (s .n) (length row) (h .whole))
+
+pub opening-accepts : (n t T sender own value marks : ℕ) → header.Sound n t T sender value marks → 1 ≤ own → own ≤ n
+    → opening-verdict n t T sender own value ≡ Accepted
+unfolding opening-verdict
+opening-accepts n t T sender own value marks h a b =
+    rw (count-accepts n (h .some) (h .most), thresholds-accept n t T (h .fits), number-accepts n sender (h .sender-low) (h .sender-high), number-accepts n own a b, bit-accepts value (h .value-bit))
+
+-- ---- small facts
 
 pub positive : (g : ℕ) → (g ≡ 0 → ⊥) → 1 ≤ g
 positive zero ne = absurd (ne refl)

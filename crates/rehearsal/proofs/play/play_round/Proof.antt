@@ -1,0 +1,25 @@
+-- `play::play_round` meets its contract: what is posted, then each station's row of it.
+use borrow.Author.Needs.{needs}
+use Rattle.rehearsal.proofs.PostLaws.{round-made}
+use Rattle.rehearsal.proofs.play.play_round.Statement.{statement}
+use Rattle.rehearsal.proofs.play.play_round.Tie as tie
+
+post-all-requires : tie.Need-post-all-requires
+post-all-requires c κs = search needs
+
+slice-aggregate-step-all : tie.Need-slice-aggregate-step-all
+slice-aggregate-step-all c = search needs
+
+step-all-requires : tie.Need-step-all-requires
+step-all-requires c κs = search needs
+
+same-length : tie.Need-same-length
+same-length c = search needs
+
+returns : tie.Need-returns
+returns c = ?
+
+pub play-round-spec : {M : Type 1} → statement M
+play-round-spec =
+    tie.close
+    (tie.spec post-all-requires slice-aggregate-step-all step-all-requires same-length returns)

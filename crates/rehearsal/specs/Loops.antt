@@ -1,0 +1,122 @@
+-- What the private functions of the rehearsal do: for their contracts, and no part of what the public call promises.
+use Prim.Native.Nat.{ℕ, zero, suc, _+_, _*_, _/_, _%_, _≤_, _<_}
+use mathlib.Core.Path.{_≡_}
+use mathlib.Core.Bool.{Bool}
+use mathlib.Core.List.{List}
+use lib.Dec.{eqb}
+use lib.ListN.{length, getD, set, take, drop}
+use Rattle.line.specs.Count.{if_then_else_}
+use Rattle.line.specs.Line.{table-length}
+use Rattle.line.specs.Marks.{marked}
+use Rattle.line.specs.Header.{Sound}
+use Rattle.broadcast.specs.Station.{after}
+use Rattle.broadcast.specs.Bytes.{tabulate, Run, log, outcomes, setup, column}
+use Rattle.station.specs.declared.Station.{Station}
+use Rattle.station.specs.declared.Outcome.{Outcome}
+use Rattle.station.specs.declared.Outcome.the-variants.{Running, Done, Refused}
+use Rattle.station.specs.Judgement.{station-verdict}
+use Rattle.station.specs.Automaton.{opened-station, station-in, outcome-of, ballot-or-silence, advanced-or-same}
+use Rattle.station.specs.Answers.{outcome-by}
+
+-- ---- what is accepted
+
+-- a run that is not refused, with a log for it
+pub record Playable (R : Run) (bytes : List ℕ) : Type 0 where
+  pub header : Sound (R .n) (R .t) (R .T) (R .sender) (R .value) (R .marks)
+  pub table-whole : length (R .table) ≡ table-length (R .n) (R .t)
+  pub log-whole : length bytes ≡ table-length (R .n) (R .t)
+
+-- ---- writing
+
+-- l with F k stored at a + k, for k below m
+unfoldable pub over : List ℕ → ℕ → ℕ → (ℕ → ℕ) → List ℕ
+over l a zero F = l
+over l a (suc m) F = set (over l a m F) (a + m) (F m)
+
+-- l with F k stored at k * 32 + i, for k below m: byte i of each of m rows
+unfoldable pub spread : List ℕ → ℕ → ℕ → (ℕ → ℕ) → List ℕ
+spread l i zero F = l
+spread l i (suc m) F = set (spread l i m F) (m * 32 + i) (F m)
+
+unfoldable pub same : ℕ → ℕ → ℕ
+same b k = b
+
+unfoldable pub from-table : List ℕ → ℕ → ℕ → ℕ
+from-table table a k = getD table (a + k) 0
+
+unfoldable pub either : Bool → List ℕ → ℕ → ℕ → ℕ → ℕ
+either bad table a b k = if bad then getD table (a + k) 0 else b
+
+-- ---- the stations
+
+-- what an array has where no station was put
+abbrev pub blank-station : Station
+blank-station = record { n = 0; t = 0; upper = 0; sender = 0; own = 0; round = 0; value = 0; z = 0; grade = 0 }
+
+-- the first m stations are opened
+unfoldable pub Opened-all : ℕ → ℕ → ℕ → ℕ → ℕ → ℕ → List Station → Type 0
+Opened-all n t T sender value m stations =
+    (i : ℕ) → i < m → getD stations i blank-station ≡ opened-station n t T sender (i + 1) value
+
+-- what station i sends to j in the round whose bytes start at `start`
+unfoldable pub posted-byte : List Station → List ℕ → ℕ → ℕ → ℕ → ℕ → ℕ → ℕ
+posted-byte stations table marks start n i j =
+    either (marked marks i) table (start + i * n) (ballot-or-silence (getD stations i blank-station)) j
+
+-- the ballots B i j of the first m senders are in the log from `start` on, and in the rows; the log before `start` is as it was
+pub record Posted (B : ℕ → ℕ → ℕ) (start n m : ℕ) (log₀ log rows : List ℕ) : Type 0 where
+  pub in-log : (i j : ℕ) → i < m → j < n → getD log (start + i * n + j) 0 ≡ B i j
+  pub in-rows : (i j : ℕ) → i < m → j < n → getD rows (j * 32 + i) 0 ≡ B i j
+  pub before : (k : ℕ) → k < start → getD log k 0 ≡ getD log₀ k 0
+  pub size : length log ≡ length log₀
+
+-- the first m stations have taken their rows of n bytes
+unfoldable pub Stepped-all : List Station → List ℕ → ℕ → ℕ → List Station → Type 0
+Stepped-all stations rows n m next =
+    (i : ℕ) → i < m → getD next i blank-station ≡ advanced-or-same (getD stations i blank-station) (take n (drop (i * 32) rows))
+
+-- one round: the ballots B are in the log, and each station has taken its n of them
+pub record Round (stations : List Station) (table : List ℕ) (marks start n : ℕ) (log₀ log : List ℕ) (next : List Station) : Type 0 where
+  pub in-log : (i j : ℕ) → i < n → j < n → getD log (start + i * n + j) 0 ≡ posted-byte stations table marks start n i j
+  pub before : (k : ℕ) → k < start → getD log k 0 ≡ getD log₀ k 0
+  pub size : length log ≡ length log₀
+  pub steps : (j : ℕ) → j < n
+      → getD next j blank-station
+      ≡ advanced-or-same (getD stations j blank-station) (tabulate n (λ i. posted-byte stations table marks start n i j))
+
+-- ---- the run so far
+
+-- station i of a run after m rows
+unfoldable pub station-after : Run → ℕ → ℕ → Station
+station-after R i m =
+    station-in (R .n) (R .t) (R .T) (R .sender) (i + 1) (after (setup R i) (R .value) (column (R .n) (log R) i) m)
+
+-- m rounds are played: the stations have taken m rows, and the log has the run's bytes of m rounds
+pub record Played (R : Run) (m : ℕ) (stations : List Station) (bytes : List ℕ) : Type 0 where
+  pub stations-are : (i : ℕ) → i < R .n → getD stations i blank-station ≡ station-after R i m
+  pub log-has : (k : ℕ) → k < m * (R .n * R .n) → getD bytes k 0 ≡ getD (log R) k 0
+  pub log-whole : length bytes ≡ table-length (R .n) (R .t)
+
+-- ---- outcomes
+
+-- the d-th of three
+unfoldable pub pick : ℕ → ℕ → ℕ → ℕ → ℕ
+pick d v g f = if eqb d 0 then v else (if eqb d 1 then g else f)
+
+-- byte d of a done station's outcome
+abbrev pub result-byte : Outcome → ℕ → ℕ
+result-byte (Running r) d = 255
+result-byte (Done v g f) d = pick d v g f
+result-byte (Refused c) d = 255
+
+unfoldable pub outcome-byte : Station → Bool → ℕ → ℕ
+outcome-byte s bad d = if bad then 255 else result-byte (outcome-by (station-verdict s) (outcome-of s)) d
+
+unfoldable pub outcome-at : List Station → ℕ → ℕ → ℕ
+outcome-at stations marks k = outcome-byte (getD stations (k / 3) blank-station) (marked marks (k / 3)) (k % 3)
+
+-- ---- the whole run
+
+pub record Ran (R : Run) (bytes results : List ℕ) : Type 0 where
+  pub log-is : bytes ≡ log R
+  pub outcomes-are : results ≡ outcomes R
