@@ -80,13 +80,18 @@ module _ (S : Setting) (v g f : ℕ → ℕ) where
   outcome-size = length-tabulate _ _
 
   -- byte d, which is 0, 1 or 2, of station i
-  triple : (i d : ℕ) → i < S .n → d < 3
-      → at (outcome-bytes S v g f) (3 * i + d) ≡ (if S .bad i then 255 else (if eqb d 0 then v i else (if eqb d 1 then g i else f i)))
-  unfolding outcome-bytes outcome-byte
-  triple i d h l =
+  pub outcome-byte-at : (i d : ℕ) → d < 3
+      → outcome-byte S v g f (3 * i + d) ≡ (if S .bad i then 255 else (if eqb d 0 then v i else (if eqb d 1 then g i else f i)))
+  unfolding outcome-byte
+  outcome-byte-at i d l =
       let m : (3 * i + d) % 3 ≡ d = omega arith in
       let q : (3 * i + d) / 3 ≡ i = omega arith in
-      at-tabulate _ _ _ (omega arith) ∙ simp (m, q)
+      simp (m, q)
+
+  triple : (i d : ℕ) → i < S .n → d < 3
+      → at (outcome-bytes S v g f) (3 * i + d) ≡ (if S .bad i then 255 else (if eqb d 0 then v i else (if eqb d 1 then g i else f i)))
+  unfolding outcome-bytes
+  triple i d h l = at-tabulate _ _ _ (omega arith) ∙ outcome-byte-at i d l
 
   value-byte : (i : ℕ) → i < S .n → value-at (outcome-bytes S v g f) i ≡ (if S .bad i then 255 else v i)
   value-byte i h = let e : 3 * i ≡ 3 * i + 0 = omega arith in rw e (triple i 0 h (omega arith))

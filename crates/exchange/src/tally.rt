@@ -2,7 +2,7 @@
 ghost use mathlib.Core.Path.{_≡_};
 ghost use Prim.Native.Nat.{_-_, _≤_};
 ghost use lib.ListN.{length};
-ghost use Rattle.broadcast.specs.Exchange.{firsts, seconds, z-of, y-of, grade-of, flag-of};
+ghost use Rattle.broadcast.specs.Exchange.{firsts, seconds, z-of, grade-of, flag-of};
 ghost use Rattle.broadcast.specs.Station.{at};
 ghost use Rattle.exchange.specs.Tally.{Graded-is};
 use line::Line;
@@ -90,7 +90,7 @@ pub fn y_and_grade(row: &[u8], t: u8, upper: u8) -> Graded
     Graded { y: 1, grade: g }
 }
 
-// The flag: 1 when the grade is below 2.
+// 1 when the grade is below 2.
 pub fn flag(grade: u8) -> u8
     ensures { λ r. ⌜ r ≡ flag-of grade ⌝ }
 {

@@ -2,10 +2,10 @@
 use Prim.Native.Nat.{ℕ, zero, suc, _+_, _≤_, _<_}
 use mathlib.Core.Path.{_≡_, refl, sym}
 use mathlib.Core.Bool.{Bool, true, false, not, true≢false}
-use mathlib.Core.Logic.{_⊎_, inl, inr}
+use mathlib.Core.Logic.{_⊎_, inl, inr, ⊎-elim}
 use native.Mathlib.Omega.{arith}
 use native.Mathlib.Numerals.{add-one}
-use native.Mathlib.Nat.{le-refl}
+use native.Mathlib.Nat.{le-refl, eq-or-lt-of-le, le-of-suc-le-suc}
 use native.Mathlib.Decide.{le-ind}
 use lib.Dec.{leb}
 use borrow.Author.Tests.{leb-true, leb-false}
@@ -73,6 +73,17 @@ pub count-none : (n : ℕ) → count n (λ k. false) ≡ 0
 unfolding count
 count-none zero = refl
 count-none (suc n) = omega (arith, count-none n)
+
+-- nobody passes where the count is 0
+pub none-passes : (n : ℕ) (p : ℕ → Bool) → count n p ≡ 0 → (k : ℕ) → k < n → p k ≡ false
+unfolding count
+none-passes zero p e k h = absurd (omega arith)
+none-passes (suc n) p e k h = go (p n) refl e (none-passes n p)
+  where
+    go : (b : Bool) → p n ≡ b → (if b then 1 else 0) + count n p ≡ 0
+        → (count n p ≡ 0 → (j : ℕ) → j < n → p j ≡ false) → p k ≡ false
+    go true q c ih = absurd (omega arith)
+    go false q c ih = ⊎-elim (λ (r : k ≡ n). rw r q) (λ (r : k < n). ih (omega arith) k r) (eq-or-lt-of-le (le-of-suc-le-suc h))
 
 -- who passes p passes q
 pub mono : (n : ℕ) (p q : ℕ → Bool) → ((k : ℕ) → k < n → p k ≡ true → q k ≡ true) → count n p ≤ count n q

@@ -2,7 +2,8 @@
 use Prim.Native.Nat.{ℕ, _+_, _-_, _*_, _/_, _%_, _^_, _≤_, _<_}
 use mathlib.Core.Path.{_≡_, refl}
 use native.Mathlib.Omega.{arith}
-use native.Mathlib.Nat.{mul-le-mul, lt-of-le-of-lt}
+use native.Mathlib.Nat.{add-assoc, add-mul, suc-mul, mul-le-mul, lt-of-le-of-lt}
+use native.Mathlib.Numerals.{add-one}
 use lib.Dec.{T, ltb, lit<}
 use mir.Syntax.{w64}
 use mir.Val.{Fits as FitsWord}
@@ -15,6 +16,10 @@ use Rattle.line.specs.Line.{Fits, rounds, table-length, place, largest-t
 pub product-fits : {a b p q : ℕ} → a ≤ p → b ≤ q → T (ltb (p * q) (2 ^ 64)) → FitsWord w64 (a * b)
 product-fits h k t = record { fits = lt-of-le-of-lt (mul-le-mul h k) (lit< t) }
 
+-- a row more, of n bytes
+pub next-row : (i n : ℕ) → (i + 1) * n ≡ i * n + n
+next-row i n = rw (add-one, suc-mul)
+
 -- ---- the largest table
 
 -- no accepted line has a longer table
@@ -26,6 +31,12 @@ table-bound n t T h fits =
 -- and one has it
 pub table-reached : Fits 32 10 10 × (table-length 32 10 ≡ largest-table)
 table-reached = (record { order = omega arith; room = omega arith }, refl)
+
+-- ---- a byte's place, from the start of its round
+
+pub place-from-start : (n r i j : ℕ) → place n r i j ≡ (r - 1) * n * n + (i * n + j)
+unfolding place
+place-from-start n r i j = rw (add-mul, add-assoc)
 
 -- ---- a byte's place tells its round, sender and receiver
 

@@ -1,0 +1,51 @@
+-- `alone::judge` meets its contract: each verdict is its definition's, and they are joined in its order.
+use borrow.Author.Needs.{needs}
+use Rattle.exchange.specs.Alone.{exchange-verdict}
+use Rattle.exchange.proofs.alone.judge.Statement.{statement}
+use Rattle.exchange.proofs.alone.judge.Tie as tie
+
+station-count-requires : tie.Need-station-count-requires
+station-count-requires c κs = search needs
+
+thresholds-requires : tie.Need-thresholds-requires
+thresholds-requires c κs = search needs
+
+judge-inputs-requires : tie.Need-judge-inputs-requires
+judge-inputs-requires c κs = search needs
+
+marks-within-requires : tie.Need-marks-within-requires
+marks-within-requires c κs = search needs
+
+judge-lengths-requires : tie.Need-judge-lengths-requires
+judge-lengths-requires c κs = search needs
+
+or-else-requires : tie.Need-or-else-requires
+or-else-requires c κs = search needs
+
+or-else-requires-2 : tie.Need-or-else-requires-2
+or-else-requires-2 c κs = search needs
+
+or-else-requires-3 : tie.Need-or-else-requires-3
+or-else-requires-3 c κs = search needs
+
+or-else-requires-4 : tie.Need-or-else-requires-4
+or-else-requires-4 c κs = search needs
+
+returns : tie.Need-returns
+unfolding exchange-verdict
+returns c = cc
+
+pub judge-spec : {M : Type 1} → statement M
+judge-spec =
+    tie.close
+    (tie.spec
+    station-count-requires
+    thresholds-requires
+    judge-inputs-requires
+    marks-within-requires
+    judge-lengths-requires
+    or-else-requires
+    or-else-requires-2
+    or-else-requires-3
+    or-else-requires-4
+    returns)
