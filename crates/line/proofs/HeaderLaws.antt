@@ -24,7 +24,7 @@ pub refused-false : {test : Bool} (c : Cause) → test ≡ false → refused-if 
 unfolding refused-if
 refused-false c e = rw e
 
-never : {c : Cause} {A : Type 0} → Refused c ≡ Accepted → A
+pub never : {c : Cause} {A : Type 0} → Refused c ≡ Accepted → A
 never e = let z : _≡_ {A = ℕ} 0 1 = cc in absurd (omega arith)
 
 -- an accepted test does not hold

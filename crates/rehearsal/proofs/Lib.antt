@@ -2,3 +2,5 @@
 pub mod WritingLaws
 pub mod ArrayLaws
 pub mod PostLaws
+pub mod RunLaws
+pub mod PromiseLaws

@@ -1,9 +1,8 @@
 -- Laws of a round's ballots in the log and in the rows. Assumes nothing.
 use Prim.Native.Nat.{ℕ, _+_, _*_, _≤_, _<_}
 use mathlib.Core.Logic.{_⊎_, inl, inr}
-use mathlib.Core.Path.{_≡_, refl, sym, ap, _∙_}
+use mathlib.Core.Path.{_≡_, refl, sym, _∙_}
 use mathlib.Core.List.{List}
-use native.Mathlib.Numerals.{add-one}
 use native.Mathlib.Nat.{eq-or-lt-of-le, suc-mul, mul-le-mul-right}
 use native.Mathlib.Omega.{arith}
 use lib.ListN.{length, getD, take, drop, length-drop}
@@ -12,12 +11,9 @@ use Rattle.station.specs.declared.Station.{Station}
 use Rattle.broadcast.specs.Bytes.{tabulate}
 use Rattle.broadcast.proofs.BytesLaws.{length-tabulate, getD-tabulate}
 use Rattle.rehearsal.specs.Loops.{over, spread, posted-byte, Posted, Stepped-all, Round}
-use Rattle.rehearsal.proofs.WritingLaws.{over-length, over-before, over-at, spread-length, spread-other, spread-at}
+use Rattle.rehearsal.proofs.WritingLaws.{over-length, over-before, over-at, spread-other, spread-at}
 
 -- i rows of n bytes, and one more
-pub next-row : (i n : ℕ) → (i + 1) * n ≡ i * n + n
-next-row i n = rw (add-one, suc-mul)
-
 pub row-within : (i n m : ℕ) → i < m → i * n + n ≤ m * n
 row-within i n m h = rw suc-mul at (mul-le-mul-right n h)
 

@@ -43,7 +43,7 @@ fn run(
     requires { ⌜ (Playable (run-of (line .n) (line .t) (line .upper) sender value marks (now table)) (now log)) × (length (now outcomes) ≡ outcomes-length (line .n)) ⌝ }
     ensures { λ _. ⌜ Ran (run-of (line .n) (line .t) (line .upper) sender value marks (now (table .entry))) (now (log .exit)) (now (outcomes .exit)) ⌝ }
 {
-    let done = play::all_rounds(line, sender, value, marks, table, log);
+    let done = play::all_rounds(line.n, line.t, line.upper, sender, value, marks, table, log);
     play::write_outcomes(done, marks, outcomes);
 }
 

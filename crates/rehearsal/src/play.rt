@@ -130,24 +130,27 @@ fn play_round(
 
 // All rounds: the stations after the last one.
 pub(crate) fn all_rounds(
-    line: Line,
+    n: u8,
+    t: u8,
+    upper: u8,
     sender: u8,
     value: u8,
     marks: u32,
     table: &[u8],
     log: &mut [u8],
 ) -> [Station; 32]
-    requires { ⌜ Playable (run-of (line .n) (line .t) (line .upper) sender value marks (now table)) (now log) ⌝ }
-    ensures { λ r. ⌜ Played (run-of (line .n) (line .t) (line .upper) sender value marks (now (table .entry))) (rounds (line .t)) r (now (log .exit)) ⌝ }
+    requires { ⌜ Playable (run-of n t upper sender value marks (now table)) (now log) ⌝ }
+    ensures { λ r. ⌜ Played (run-of n t upper sender value marks (now (table .entry))) (rounds t) r (now (log .exit)) ⌝ }
 {
-    let n = line.n as usize;
+    let line = Line { n, t, upper };
     let last = line.rounds();
-    let size = n * n;
+    let wide = n as usize;
+    let size = wide * wide;
     let mut stations = open_all(line, sender, value);
     let mut r: usize = 0;
     let mut start: usize = 0;
     while r < last {
-        let next = play_round(stations, log, table, marks, start, n);
+        let next = play_round(stations, log, table, marks, start, wide);
         stations = next;
         start += size;
         r += 1;

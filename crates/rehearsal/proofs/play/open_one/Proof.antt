@@ -1,6 +1,5 @@
 -- `play::open_one` meets its contract: what is accepted is opened.
 use borrow.Author.Needs.{needs}
-use mathlib.Core.Path.{_≡_, sym, ap, _∙_}
 use Rattle.rehearsal.proofs.play.open_one.Statement.{statement}
 use Rattle.rehearsal.proofs.play.open_one.Tie as tie
 

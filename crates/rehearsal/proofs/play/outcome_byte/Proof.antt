@@ -1,6 +1,5 @@
 -- `play::outcome_byte` meets its contract, case by case of the result.
 use borrow.Author.Needs.{needs}
-use mathlib.Core.Path.{sym, _∙_}
 use Rattle.rehearsal.specs.Loops.{outcome-byte}
 use Rattle.rehearsal.proofs.play.outcome_byte.Statement.{statement}
 use Rattle.rehearsal.proofs.play.outcome_byte.Tie as tie

@@ -14,10 +14,12 @@ step-all-requires : tie.Need-step-all-requires
 step-all-requires c κs = search needs
 
 same-length : tie.Need-same-length
-same-length c = search needs
+same-length c = c .before .before .before .before .post-all .ensures .1 .size
 
 returns : tie.Need-returns
-returns c = ?
+returns c =
+    let p = c .before .before .before .before .post-all .ensures in
+    round-made _ _ _ _ _ _ _ _ _ (c .before .before .before .before .before .before .before .before .before .pre .0) (p .0) (p .1) (c .step-all .ensures)
 
 pub play-round-spec : {M : Type 1} → statement M
 play-round-spec =

@@ -1,12 +1,13 @@
 -- `play::post_all` meets its contract. The loop's invariant: the ballots of the first i senders are posted.
 use borrow.Author.Needs.{needs}
 use Prim.Native.Nat.{_+_, _*_, _≤_, _-_}
-use mathlib.Core.Path.{_≡_, refl, ap, _∙_}
+use mathlib.Core.Path.{_≡_, ap, _∙_}
 use native.Mathlib.Omega.{arith}
 use lib.ListN.{length}
 use Rattle.rehearsal.specs.Loops.{posted-byte, Posted}
 use Rattle.rehearsal.proofs.WritingLaws.{spread-length}
-use Rattle.rehearsal.proofs.PostLaws.{next-row, row-within, posted-none, posted-turn}
+use Rattle.line.proofs.LineLaws.{next-row}
+use Rattle.rehearsal.proofs.PostLaws.{row-within, posted-none, posted-turn}
 use Rattle.rehearsal.proofs.play.post_all.Statement.{statement}
 use Rattle.rehearsal.proofs.play.post_all.Tie as tie
 

@@ -1,11 +1,11 @@
 -- `play::write_outcomes` meets its contract. The loop's invariant: k bytes are written.
 use borrow.Author.Needs.{needs}
-use Prim.Native.Nat.{_≤_, _-_, _/_, _%_}
-use mathlib.Core.Path.{_≡_, refl, ap, _∙_}
+use Prim.Native.Nat.{_≤_, _-_}
+use mathlib.Core.Path.{_≡_, refl}
 use native.Mathlib.Omega.{arith}
 use lib.ListN.{length, length-set}
 use Rattle.rehearsal.specs.Loops.{over, outcome-at}
-use Rattle.rehearsal.proofs.WritingLaws.{over-none, front-turn, over-length}
+use Rattle.rehearsal.proofs.WritingLaws.{over-none, front-turn}
 use Rattle.rehearsal.proofs.play.write_outcomes.Statement.{statement}
 use Rattle.rehearsal.proofs.play.write_outcomes.Tie as tie
 

@@ -1,6 +1,6 @@
 -- `post::post` meets its contract: each arm writes what `either` says.
 use borrow.Author.Needs.{needs}
-use mathlib.Core.Path.{_≡_, refl, sym, ap, _∙_}
+use mathlib.Core.Path.{_∙_}
 use Rattle.rehearsal.proofs.WritingLaws.{over-same, spread-same, either-table, either-same}
 use Rattle.rehearsal.proofs.post.post.Statement.{statement}
 use Rattle.rehearsal.proofs.post.post.Tie as tie
