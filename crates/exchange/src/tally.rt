@@ -1,6 +1,6 @@
 // What one station makes of the rows that it received. A row is a slice of any length, which is the number n of ballots.
 ghost use mathlib.Core.Path.{_≡_};
-ghost use Prim.Native.Nat.{_-_, _≤_};
+ghost use Prim.Native.Nat.{_+_, _-_, _≤_, _<_};
 ghost use lib.ListN.{length};
 ghost use Rattle.broadcast.specs.Exchange.{firsts, seconds, z-of, grade-of, flag-of};
 ghost use Rattle.broadcast.specs.Station.{at};
@@ -14,6 +14,46 @@ pub struct Graded {
     pub grade: u8,
 }
 
+// Where the block of ballots that starts at i ends. A block has at most 128, so that its count fits a byte.
+fn block_end(i: usize, n: usize) -> usize
+    requires { ⌜ i < n ⌝ }
+    ensures { λ r. ⌜ (i < r) × (r ≤ n) × (r ≤ i + 128) ⌝ }
+{
+    if n - i < 128 { n } else { i + 128 }
+}
+
+// How many ballots of a block of a first row are read as v.
+fn firsts_in(row: &[u8], v: u8, from: usize, to: usize) -> u8
+    requires { ⌜ (from ≤ to) × (to ≤ length (now row)) × (to ≤ from + 128) ⌝ }
+    ensures { λ r. ⌜ firsts from v (at (now (row .entry))) + r ≡ firsts to v (at (now (row .entry))) ⌝ }
+{
+    let mut count: u8 = 0;
+    let mut i = from;
+    while i < to {
+        if ballot::read_first(row[i]) == v {
+            count += 1;
+        }
+        i += 1;
+    }
+    count
+}
+
+// How many ballots of a block of a second row are read as v.
+fn seconds_in(row: &[u8], v: u8, from: usize, to: usize) -> u8
+    requires { ⌜ (from ≤ to) × (to ≤ length (now row)) × (to ≤ from + 128) ⌝ }
+    ensures { λ r. ⌜ seconds from v (at (now (row .entry))) + r ≡ seconds to v (at (now (row .entry))) ⌝ }
+{
+    let mut count: u8 = 0;
+    let mut i = from;
+    while i < to {
+        if ballot::read_second(row[i]) == v {
+            count += 1;
+        }
+        i += 1;
+    }
+    count
+}
+
 // Step 1: how many ballots of a first row are read as v.
 pub fn firsts(row: &[u8], v: u8) -> usize
     ensures { λ r. ⌜ r ≡ firsts (length (now (row .entry))) v (at (now (row .entry))) ⌝ }
@@ -21,10 +61,9 @@ pub fn firsts(row: &[u8], v: u8) -> usize
     let mut count: usize = 0;
     let mut i: usize = 0;
     while i < row.len() {
-        if ballot::read_first(row[i]) == v {
-            count += 1;
-        }
-        i += 1;
+        let to = block_end(i, row.len());
+        count += firsts_in(row, v, i, to) as usize;
+        i = to;
     }
     count
 }
@@ -36,10 +75,9 @@ pub fn seconds(row: &[u8], v: u8) -> usize
     let mut count: usize = 0;
     let mut i: usize = 0;
     while i < row.len() {
-        if ballot::read_second(row[i]) == v {
-            count += 1;
-        }
-        i += 1;
+        let to = block_end(i, row.len());
+        count += seconds_in(row, v, i, to) as usize;
+        i = to;
     }
     count
 }

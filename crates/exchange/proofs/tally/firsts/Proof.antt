@@ -1,13 +1,12 @@
 -- `tally::firsts` meets its contract. The loop's invariant: count is the tally of the first i ballots.
 use borrow.Author.Needs.{needs}
 use Prim.Native.Nat.{_≤_, _-_}
-use mathlib.Core.Path.{_≡_, sym, _∙_}
-use mathlib.Core.Logic.{⊎-elim}
+use mathlib.Core.Path.{_≡_}
 use native.Mathlib.Omega.{arith}
 use lib.ListN.{length}
 use Rattle.broadcast.specs.Exchange.{firsts}
 use Rattle.broadcast.specs.Station.{at}
-use Rattle.broadcast.proofs.TallyLaws.{firsts-none, firsts-hit, firsts-miss, firsts-le}
+use Rattle.broadcast.proofs.TallyLaws.{firsts-none, firsts-le}
 use Rattle.exchange.proofs.tally.firsts.Statement.{statement}
 use Rattle.exchange.proofs.tally.firsts.Tie as tie
 
@@ -20,32 +19,25 @@ abbrev μ-loop : tie.MeasureT-loop
 loop-holds : tie.Need-loop-holds Inv-loop μ-loop
 loop-holds c = omega (arith, firsts-none (c .before .args .v) (at (c .before .args .row .now)))
 
-shared-slice-read-read-first : tie.Need-shared-slice-read-read-first Inv-loop μ-loop
-shared-slice-read-read-first c = search needs
+block-end-requires : tie.Need-block-end-requires Inv-loop μ-loop
+block-end-requires c κs = search needs
 
-read-first-requires : tie.Need-read-first-requires Inv-loop μ-loop
-read-first-requires c κs = search needs
+firsts-in-requires : tie.Need-firsts-in-requires Inv-loop μ-loop
+firsts-in-requires c κs = search needs
+
+cast-count : tie.Need-cast-count Inv-loop μ-loop
+cast-count c = search needs
 
 add-count : tie.Need-add-count Inv-loop μ-loop
 add-count c =
-    let s = c .before .before .before .before .before .before .args in
-    omega (arith, firsts-le (s .v) (at (s .row .now)) (c .before .before .before .before .loop .i))
-
-add-i : tie.Need-add-i Inv-loop μ-loop
-add-i c = search needs
+    let s = c .before .before .before .before .before .args in
+    omega (arith, firsts-le (s .v) (at (s .row .now)) (c .before .block-end .result))
 
 loop-less : tie.Need-loop-less Inv-loop μ-loop
 loop-less c = search needs
 
 loop-again : tie.Need-loop-again Inv-loop μ-loop
-unfolding at
-loop-again c =
-    let s = c .before .before .before .before .before .before .args in
-    let i = c .before .before .before .before .loop .i in
-    ⊎-elim
-    (λ w. omega (arith, firsts-hit (s .v) (at (s .row .now)) i (sym (c .before .read-first .ensures) ∙ w .0 .taken)))
-    (λ w. omega (arith, firsts-miss (s .v) (at (s .row .now)) i (λ e. w .0 .left (c .before .read-first .ensures ∙ e))))
-    (c .if1 .came)
+loop-again c = omega arith
 
 returns : tie.Need-returns Inv-loop μ-loop
 returns c = let e : c .before .loop .i ≡ length (c .before .before .before .args .row .now) = omega arith in rw (← e) (c .before .loop .inv .1)
@@ -57,10 +49,10 @@ firsts-spec =
     Inv-loop
     μ-loop
     loop-holds
-    shared-slice-read-read-first
-    read-first-requires
+    block-end-requires
+    firsts-in-requires
+    cast-count
     add-count
-    add-i
     loop-less
     loop-again
     returns)

@@ -1,0 +1,63 @@
+-- `tally::seconds_in` meets its contract. The loop's invariant: count is what the tally of the first i ballots has above that of the first `from`.
+use borrow.Author.Needs.{needs}
+use Prim.Native.Nat.{_+_, _≤_, _-_}
+use mathlib.Core.Path.{_≡_, sym, _∙_}
+use mathlib.Core.Logic.{⊎-elim}
+use native.Mathlib.Omega.{arith}
+use Rattle.broadcast.specs.Exchange.{seconds}
+use Rattle.broadcast.specs.Station.{at}
+use Rattle.broadcast.proofs.TallyLaws.{seconds-hit, seconds-miss}
+use Rattle.exchange.proofs.tally.seconds_in.Statement.{statement}
+use Rattle.exchange.proofs.tally.seconds_in.Tie as tie
+
+abbrev Inv-loop : tie.InvT-loop
+Inv-loop row v from to count₀ i₀ count i = (from ≤ i) × (i ≤ to) × (count ≤ i - from) × (seconds from v (at row) + count ≡ seconds i v (at row))
+
+abbrev μ-loop : tie.MeasureT-loop
+μ-loop row v from to count₀ i₀ count i = to - i
+
+loop-holds : tie.Need-loop-holds Inv-loop μ-loop
+loop-holds c = search needs
+
+shared-slice-read-read-second : tie.Need-shared-slice-read-read-second Inv-loop μ-loop
+shared-slice-read-read-second c = search needs
+
+read-second-requires : tie.Need-read-second-requires Inv-loop μ-loop
+read-second-requires c κs = search needs
+
+add-count : tie.Need-add-count Inv-loop μ-loop
+add-count c = omega arith
+
+add-i : tie.Need-add-i Inv-loop μ-loop
+add-i c = search needs
+
+loop-less : tie.Need-loop-less Inv-loop μ-loop
+loop-less c = search needs
+
+loop-again : tie.Need-loop-again Inv-loop μ-loop
+unfolding at
+loop-again c =
+    let s = c .before .before .before .before .before .before .args in
+    let i = c .before .before .before .before .loop .i in
+    ⊎-elim
+    (λ w. omega (arith, seconds-hit (s .v) (at (s .row .now)) i (sym (c .before .read-second .ensures) ∙ w .0 .taken)))
+    (λ w. omega (arith, seconds-miss (s .v) (at (s .row .now)) i (λ e. w .0 .left (c .before .read-second .ensures ∙ e))))
+    (c .if1 .came)
+
+returns : tie.Need-returns Inv-loop μ-loop
+returns c = let e : c .before .loop .i ≡ c .before .before .before .args .to = omega arith in rw e at (c .before .loop .inv .3)
+
+pub seconds-in-spec : {M : Type 1} → statement M
+seconds-in-spec =
+    tie.close
+    (tie.spec
+    Inv-loop
+    μ-loop
+    loop-holds
+    shared-slice-read-read-second
+    read-second-requires
+    add-count
+    add-i
+    loop-less
+    loop-again
+    returns)
