@@ -29,7 +29,7 @@ use Rattle.station.specs.Judgement as judgement
 use Rattle.station.specs.Answers.{outcome-by}
 use Rattle.station.specs.Automaton.{setup-of, opened-station, outcome-of, ballot-or-silence, advanced-or-same}
 use Rattle.station.proofs.SoundLaws.{sound-accepts, telling-accepts, taking-accepts}
-use Rattle.rehearsal.specs.Loops.{over, either, blank-station, Opened-all, posted-byte, Round, station-after, Playable, Played, pick, result-byte, outcome-byte, outcome-at}
+use Rattle.rehearsal.specs.Loops.{over, either, blank-station, Opened-all, posted-byte, ballot-of, Round, station-after, Playable, Played, pick, result-byte, outcome-byte, outcome-at}
 use Rattle.rehearsal.proofs.WritingLaws.{over-length, over-at}
 use Rattle.rehearsal.proofs.PostLaws.{row-within}
 
@@ -117,8 +117,8 @@ module _ (R : Run) (bytes₀ : List ℕ) (ready : Playable R bytes₀) where
 
   module _ (m : ℕ) (left : m < rounds (R .t)) (stations : List Station) (bytes : List ℕ) (P : Played R m stations bytes) where
     posted-is : (i j : ℕ) → i < R .n → j < R .n
-        → posted-byte stations (R .table) (R .marks) (m * (R .n * R .n)) (R .n) i j ≡ at (log R) (place (R .n) (suc m) i j)
-    unfolding posted-byte either
+        → ballot-of stations (R .table) (R .marks) (m * (R .n * R .n)) (R .n) i j ≡ at (log R) (place (R .n) (suc m) i j)
+    unfolding ballot-of posted-byte either
     posted-is i j hi hj = go (marked (R .marks) i) refl
       where
         go : (b : Bool) → marked (R .marks) i ≡ b
@@ -126,14 +126,14 @@ module _ (R : Run) (bytes₀ : List ℕ) (ready : Playable R bytes₀) where
             ≡ at (log R) (place (R .n) (suc m) i j)
         go true e = sym (together .from-marked (suc m) i j (omega arith) left hi hj e ∙ at-place (R .table) m i j)
         go false e =
-            ap ballot-or-silence (P .stations-are i hi)
+            ap ballot-or-silence (P .stations-are i hi e)
             ∙ its-ballot i m hi left
             ∙ follows i hi e .ballots m j left hj
             ∙ ap (λ (r : ℕ). at (log R) (place (R .n) r i j)) (add-one m)
 
     -- a station's ballots of the round are its row of the log
     row-is : (j : ℕ) → j < R .n
-        → tabulate (R .n) (λ i. posted-byte stations (R .table) (R .marks) (m * (R .n * R .n)) (R .n) i j)
+        → tabulate (R .n) (λ i. ballot-of stations (R .table) (R .marks) (m * (R .n * R .n)) (R .n) i j)
         ≡ column (R .n) (log R) j (suc m)
     unfolding column
     row-is j h = tabulate-same (R .n) _ _ (λ i l. posted-is i j l h)
@@ -142,10 +142,8 @@ module _ (R : Run) (bytes₀ : List ℕ) (ready : Playable R bytes₀) where
 
     module _ (bytes′ : List ℕ) (next : List Station)
         (Q : Round stations (R .table) (R .marks) (m * (R .n * R .n)) (R .n) bytes bytes′ next) where
-      stepped : (j : ℕ) → j < R .n → getD next j blank-station ≡ station-after R j (suc m)
-      stepped j h =
-          Q .steps j h
-          ∙ rw (row-is j h, P .stations-are j h) (its-step j m h left)
+      stepped : (j : ℕ) → j < R .n → marked (R .marks) j ≡ false → getD next j blank-station ≡ station-after R j (suc m)
+      stepped j h g = Q .steps j h g ∙ rw (row-is j h, P .stations-are j h g) (its-step j m h left)
 
       -- a byte of the round just played
       written : (k : ℕ) → k < R .n * R .n → getD bytes′ (m * (R .n * R .n) + k) 0 ≡ getD (log R) (m * (R .n * R .n) + k) 0
@@ -184,7 +182,7 @@ module _ (R : Run) (bytes₀ : List ℕ) (ready : Playable R bytes₀) where
       → Played R 0 stations bytes₀
   unfolding Opened-all opened-station station-after after
   opened-played stations h = record {
-    stations-are = h;
+    stations-are = λ i l g. h i l;
     log-has = λ k l. absurd (omega (arith, zero-mul (R .n * R .n)));
     log-whole = ready .log-whole;
   }
@@ -219,10 +217,10 @@ module _ (R : Run) (bytes₀ : List ℕ) (ready : Playable R bytes₀) where
     byte-is : (i d : ℕ) → i < R .n → d < 3
         → outcome-byte (getD stations i blank-station) (marked (R .marks) i) d ≡ at (outcomes R) (3 * i + d)
     unfolding outcome-byte
-    byte-is i d h l = rw (P .stations-are i h) (go (marked (R .marks) i) refl)
+    byte-is i d h l = go (marked (R .marks) i) refl
       where
         s : Station
-        s = station-after R i (rounds (R .t))
+        s = getD stations i blank-station
 
         bad-byte : (d : ℕ) → d < 3 → marked (R .marks) i ≡ true → _≡_ {A = ℕ} 255 (at (outcomes R) (3 * i + d))
         bad-byte zero l e = let z : 3 * i + 0 ≡ 3 * i = omega arith in rw z (sym (outcome-bytes R .marked-value i h e))
@@ -233,7 +231,7 @@ module _ (R : Run) (bytes₀ : List ℕ) (ready : Playable R bytes₀) where
         go : (b : Bool) → marked (R .marks) i ≡ b
             → (if b then 255 else result-byte (outcome-by (judgement.station-verdict s) (outcome-of s)) d) ≡ at (outcomes R) (3 * i + d)
         go true e = bad-byte d l e
-        go false e = rw (done-station i h e) (picked i d l)
+        go false e = rw (P .stations-are i h e, done-station i h e) (picked i d l)
 
     pub outcomes-made : (l : List ℕ) → length l ≡ outcomes-length (R .n) → over l 0 (length l) (outcome-at stations (R .marks)) ≡ outcomes R
     unfolding outcome-at

@@ -9,7 +9,7 @@ use native.Mathlib.Nat.{eq-or-lt-of-le, le-of-suc-le-suc}
 use native.Mathlib.Omega.{arith}
 use lib.ListN.{length, getD, set, length-set}
 use lib.Seq.{getD-set-same, getD-set-other}
-use Rattle.rehearsal.specs.Loops.{over, spread, same, from-table, either}
+use Rattle.rehearsal.specs.Loops.{over, spread, spread-if, same, from-table, either}
 
 module _ (l : List ℕ) (a : ℕ) (F : ℕ → ℕ) where
   pub over-none : l ≡ over l a 0 F
@@ -91,6 +91,11 @@ module _ (l : List ℕ) (i : ℕ) (F : ℕ → ℕ) where
   unfolding spread
   spread-same G zero h = refl
   spread-same G (suc m) h = rw (spread-same G m (λ j p. h j (omega arith)), h m (omega arith))
+
+pub spread-if-length : (bad : Bool) (l : List ℕ) (i m : ℕ) (F : ℕ → ℕ) → length (spread-if bad l i m F) ≡ length l
+unfolding spread-if
+spread-if-length true l i m F = spread-length l i F m
+spread-if-length false l i m F = refl
 
 -- ---- a bad station's bytes and a good station's
 

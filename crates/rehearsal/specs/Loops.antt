@@ -1,7 +1,8 @@
 -- What the private functions of the rehearsal do: for their contracts, and no part of what the public call promises.
 use Prim.Native.Nat.{ℕ, zero, suc, _+_, _*_, _/_, _%_, _<_}
 use mathlib.Core.Path.{_≡_}
-use mathlib.Core.Bool.{Bool}
+use mathlib.Core.Bool.{Bool, false}
+use mathlib.Core.Logic.{_⊎_}
 use mathlib.Core.List.{List}
 use lib.Dec.{eqb}
 use lib.ListN.{length, getD, set, take, drop}
@@ -38,6 +39,13 @@ unfoldable pub spread : List ℕ → ℕ → ℕ → (ℕ → ℕ) → List ℕ
 spread l i zero F = l
 spread l i (suc m) F = set (spread l i m F) (m * 32 + i) (F m)
 
+unfoldable pub spread-if : Bool → List ℕ → ℕ → ℕ → (ℕ → ℕ) → List ℕ
+spread-if bad l i m F = if bad then spread l i m F else l
+
+-- the bytes of a list
+unfoldable pub each-of : List ℕ → ℕ → ℕ
+each-of l k = getD l k 0
+
 unfoldable pub same : ℕ → ℕ → ℕ
 same b k = b
 
@@ -58,31 +66,52 @@ unfoldable pub Opened-all : ℕ → ℕ → ℕ → ℕ → ℕ → ℕ → List
 Opened-all n t T sender value m stations =
     (i : ℕ) → i < m → getD stations i blank-station ≡ opened-station n t T sender (i + 1) value
 
--- what station i sends to j in the round whose bytes start at `start`
-unfoldable pub posted-byte : List Station → List ℕ → ℕ → ℕ → ℕ → ℕ → ℕ → ℕ
-posted-byte stations table marks start n i j =
-    either (marked marks i) table (start + i * n) (ballot-or-silence (getD stations i blank-station)) j
+-- what the steps make station i send, 255 where it is bad
+unfoldable pub told : Bool → Station → ℕ
+told bad s = if bad then 255 else ballot-or-silence s
 
--- the ballots B i j of the first m senders are in the log from `start` on, and in the rows; the log before `start` is as it was
-pub record Posted (B : ℕ → ℕ → ℕ) (start n m : ℕ) (log₀ log rows : List ℕ) : Type 0 where
-  pub in-log : (i j : ℕ) → i < m → j < n → getD log (start + i * n + j) 0 ≡ B i j
-  pub in-rows : (i j : ℕ) → i < m → j < n → getD rows (j * 32 + i) 0 ≡ B i j
+-- the first m bytes are what the stations send
+unfoldable pub Told-all : List Station → ℕ → ℕ → List ℕ → Type 0
+Told-all stations marks m said = (i : ℕ) → i < m → getD said i 0 ≡ told (marked marks i) (getD stations i blank-station)
+
+-- the first m rows are what is said
+unfoldable pub Laid : List ℕ → ℕ → List ℕ → Type 0
+Laid said m rows = (length rows ≡ 1024) × ((i j : ℕ) → i < 32 → j < m → getD rows (j * 32 + i) 0 ≡ getD said i 0)
+
+-- what station i sends to j in the round whose bytes start at `start`: the table's byte if it is bad, otherwise b
+unfoldable pub posted-byte : ℕ → List ℕ → ℕ → ℕ → ℕ → ℕ → ℕ → ℕ
+posted-byte b table marks start n i j = either (marked marks i) table (start + i * n) b j
+
+-- the ballots of the first m senders are in the log from `start` on; these and all good ones are in the rows; the log before `start` is as it was
+pub record Posted (said table : List ℕ) (marks start n m : ℕ) (log₀ log rows : List ℕ) : Type 0 where
+  pub in-log : (i j : ℕ) → i < m → j < n → getD log (start + i * n + j) 0 ≡ posted-byte (getD said i 0) table marks start n i j
+  pub in-rows : (i j : ℕ) → i < n → j < n → (marked marks i ≡ false) ⊎ (i < m)
+      → getD rows (j * 32 + i) 0 ≡ posted-byte (getD said i 0) table marks start n i j
   pub before : (k : ℕ) → k < start → getD log k 0 ≡ getD log₀ k 0
   pub size : length log ≡ length log₀
+
+-- a good station takes its row, a bad one stays
+unfoldable pub stepped : Bool → Station → List ℕ → Station
+stepped bad s row = if bad then s else advanced-or-same s row
 
 -- the first m stations have taken their rows of n bytes
-unfoldable pub Stepped-all : List Station → List ℕ → ℕ → ℕ → List Station → Type 0
-Stepped-all stations rows n m next =
-    (i : ℕ) → i < m → getD next i blank-station ≡ advanced-or-same (getD stations i blank-station) (take n (drop (i * 32) rows))
+unfoldable pub Stepped-all : List Station → List ℕ → ℕ → ℕ → ℕ → List Station → Type 0
+Stepped-all stations rows marks n m next =
+    (i : ℕ) → i < m
+    → getD next i blank-station ≡ stepped (marked marks i) (getD stations i blank-station) (take n (drop (i * 32) rows))
 
--- one round: the ballots B are in the log, and each station has taken its n of them
+-- what station i of these sends to j
+unfoldable pub ballot-of : List Station → List ℕ → ℕ → ℕ → ℕ → ℕ → ℕ → ℕ
+ballot-of stations table marks start n i j = posted-byte (ballot-or-silence (getD stations i blank-station)) table marks start n i j
+
+-- one round: the ballots are in the log, and each good station has taken its n of them
 pub record Round (stations : List Station) (table : List ℕ) (marks start n : ℕ) (log₀ log : List ℕ) (next : List Station) : Type 0 where
-  pub in-log : (i j : ℕ) → i < n → j < n → getD log (start + i * n + j) 0 ≡ posted-byte stations table marks start n i j
+  pub in-log : (i j : ℕ) → i < n → j < n → getD log (start + i * n + j) 0 ≡ ballot-of stations table marks start n i j
   pub before : (k : ℕ) → k < start → getD log k 0 ≡ getD log₀ k 0
   pub size : length log ≡ length log₀
-  pub steps : (j : ℕ) → j < n
+  pub steps : (j : ℕ) → j < n → marked marks j ≡ false
       → getD next j blank-station
-      ≡ advanced-or-same (getD stations j blank-station) (tabulate n (λ i. posted-byte stations table marks start n i j))
+      ≡ advanced-or-same (getD stations j blank-station) (tabulate n (λ i. ballot-of stations table marks start n i j))
 
 -- ---- the run so far
 
@@ -91,9 +120,9 @@ unfoldable pub station-after : Run → ℕ → ℕ → Station
 station-after R i m =
     station-in (R .n) (R .t) (R .T) (R .sender) (i + 1) (after (setup R i) (R .value) (column (R .n) (log R) i) m)
 
--- m rounds are played: the stations have taken m rows, and the log has the run's bytes of m rounds
+-- m rounds are played: the good stations have taken m rows, and the log has the run's bytes of m rounds
 pub record Played (R : Run) (m : ℕ) (stations : List Station) (bytes : List ℕ) : Type 0 where
-  pub stations-are : (i : ℕ) → i < R .n → getD stations i blank-station ≡ station-after R i m
+  pub stations-are : (i : ℕ) → i < R .n → marked (R .marks) i ≡ false → getD stations i blank-station ≡ station-after R i m
   pub log-has : (k : ℕ) → k < m * (R .n * R .n) → getD bytes k 0 ≡ getD (log R) k 0
   pub log-whole : length bytes ≡ table-length (R .n) (R .t)
 

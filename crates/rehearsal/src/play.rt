@@ -7,7 +7,7 @@ ghost use Rattle.station.specs.Judgement.{opening-verdict};
 ghost use Rattle.line.specs.declared.cause.Verdict.the-variants.{Accepted};
 ghost use Rattle.line.specs.Line.{rounds};
 ghost use Rattle.rehearsal.specs.Promise.{run-of};
-ghost use Rattle.rehearsal.specs.Loops.{over, blank-station, Opened-all, posted-byte, Posted, Stepped-all, Round, Playable, Played, pick, outcome-byte, outcome-at};
+ghost use Rattle.rehearsal.specs.Loops.{over, blank-station, Opened-all, told, Told-all, stepped, Stepped-all, Round, Playable, Played, pick, outcome-byte, outcome-at};
 use crate::post;
 use line::Line;
 use line::marks;
@@ -60,51 +60,57 @@ pub(crate) fn open_all(line: Line, sender: u8, value: u8) -> [Station; 32]
     stations
 }
 
-// What every station sends in the round whose bytes start at `start`.
-fn post_all(
-    stations: [Station; 32],
-    log: &mut [u8],
-    rows: &mut [u8; 1024],
-    table: &[u8],
-    marks: u32,
-    start: usize,
-    n: usize,
-)
-    requires { ⌜ (n ≤ 32) × (start + n * n ≤ length (now log)) × (start + n * n ≤ length (now table)) × (length (now rows) ≡ 1024) ⌝ }
-    ensures { λ _. ⌜ (length (now (rows .exit)) ≡ 1024) × Posted (posted-byte stations (now (table .entry)) marks start n) start n n (now (log .entry)) (now (log .exit)) (now (rows .exit)) ⌝ }
+// What the steps make a good station send. A bad one is not asked.
+fn tell_one(bad: bool, s: Station) -> u8
+    ensures { λ r. ⌜ r ≡ told bad s ⌝ }
 {
-    let mut i: usize = 0;
-    let mut at = start;
-    while i < n {
-        let s = stations[i];
-        let b = station::ballot_or_silence(s);
-        let bad = marks::is_marked(marks, i as u8);
-        post::post(log, rows, table, bad, b, at, n, i);
-        at += n;
-        i += 1;
+    if bad {
+        Line::SILENCE
+    } else {
+        station::ballot_or_silence(s)
     }
 }
 
-// Station j takes its row.
-fn step_one(s: Station, rows: &[u8], n: usize, j: usize) -> Station
-    requires { ⌜ (n ≤ 32) × (j < 32) × (length (now rows) ≡ 1024) ⌝ }
-    ensures { λ r. ⌜ r ≡ advanced-or-same s (take n (drop (j * 32) (now (rows .entry)))) ⌝ }
+// What the steps make the first n stations send.
+fn tell_all(stations: [Station; 32], marks: u32, n: usize) -> [u8; 32]
+    requires { ⌜ n ≤ 32 ⌝ }
+    ensures { λ r. ⌜ (length r ≡ 32) × Told-all stations marks n r ⌝ }
 {
+    let mut said = [0u8; 32];
+    let mut i: usize = 0;
+    while i < n {
+        let s = stations[i];
+        let bad = marks::is_marked(marks, i as u8);
+        said[i] = tell_one(bad, s);
+        i += 1;
+    }
+    said
+}
+
+// Station j takes its row, if it is good.
+fn step_one(bad: bool, s: Station, rows: &[u8], n: usize, j: usize) -> Station
+    requires { ⌜ (n ≤ 32) × (j < 32) × (length (now rows) ≡ 1024) ⌝ }
+    ensures { λ r. ⌜ r ≡ stepped bad s (take n (drop (j * 32) (now (rows .entry)))) ⌝ }
+{
+    if bad {
+        return s;
+    }
     let from = j * 32;
     let to = from + n;
     station::advance_or_stay(s, &rows[from..to])
 }
 
-// Every station takes its row.
-fn step_all(stations: [Station; 32], rows: &[u8], n: usize) -> [Station; 32]
+// Every good station takes its row.
+fn step_all(stations: [Station; 32], rows: &[u8], marks: u32, n: usize) -> [Station; 32]
     requires { ⌜ (n ≤ 32) × (length (now rows) ≡ 1024) ⌝ }
-    ensures { λ r. ⌜ Stepped-all stations (now (rows .entry)) n n r ⌝ }
+    ensures { λ r. ⌜ Stepped-all stations (now (rows .entry)) marks n n r ⌝ }
 {
     let mut next = stations;
     let mut j: usize = 0;
     while j < n {
         let s = next[j];
-        let t = step_one(s, rows, n, j);
+        let bad = marks::is_marked(marks, j as u8);
+        let t = step_one(bad, s, rows, n, j);
         next[j] = t;
         j += 1;
     }
@@ -124,8 +130,9 @@ fn play_round(
     ensures { λ r. ⌜ Round stations (now (table .entry)) marks start n (now (log .entry)) (now (log .exit)) r ⌝ }
 {
     let mut rows = [0u8; 1024];
-    post_all(stations, log, &mut rows, table, marks, start, n);
-    step_all(stations, &rows, n)
+    let said = tell_all(stations, marks, n);
+    post::post_all(&said, log, &mut rows, table, marks, start, n);
+    step_all(stations, &rows, marks, n)
 }
 
 // All rounds: the stations after the last one.

@@ -1,8 +1,11 @@
--- `play::play_round` meets its contract: what is posted, then each station's row of it.
+-- `play::play_round` meets its contract: what is said, posted, and taken.
 use borrow.Author.Needs.{needs}
 use Rattle.rehearsal.proofs.PostLaws.{round-made}
 use Rattle.rehearsal.proofs.play.play_round.Statement.{statement}
 use Rattle.rehearsal.proofs.play.play_round.Tie as tie
+
+tell-all-requires : tie.Need-tell-all-requires
+tell-all-requires c κs = search needs
 
 post-all-requires : tie.Need-post-all-requires
 post-all-requires c κs = search needs
@@ -19,9 +22,16 @@ same-length c = c .before .before .before .before .post-all .ensures .1 .size
 returns : tie.Need-returns
 returns c =
     let p = c .before .before .before .before .post-all .ensures in
-    round-made _ _ _ _ _ _ _ _ _ (c .before .before .before .before .before .before .before .before .before .pre .0) (p .0) (p .1) (c .step-all .ensures)
+    let s = c .before .before .before .before .before .before .before .before .before .before .before in
+    round-made _ _ _ _ _ _ _ _ _ _ (s .pre .0) (p .0) (c .before .before .before .before .before .before .before .before .tell-all .ensures .1) (p .1) (c .step-all .ensures)
 
 pub play-round-spec : {M : Type 1} → statement M
 play-round-spec =
     tie.close
-    (tie.spec post-all-requires slice-aggregate-step-all step-all-requires same-length returns)
+    (tie.spec
+    tell-all-requires
+    post-all-requires
+    slice-aggregate-step-all
+    step-all-requires
+    same-length
+    returns)

@@ -1,31 +1,37 @@
 -- `play::step_all` meets its contract. The loop's invariant: the first j stations have taken their rows, and the others are as they were.
 use borrow.Author.Needs.{needs}
-use Prim.Native.Nat.{ℕ, _≤_, _-_, _*_}
+use Prim.Native.Nat.{ℕ, _≤_, _-_, _*_, _<_}
 use mathlib.Core.Path.{_≡_, refl, ap, _∙_}
 use native.Mathlib.Omega.{arith}
 use native.Mathlib.Nat.{le-refl}
 use lib.ListN.{length, getD, length-set, take, drop}
+use Rattle.line.specs.Marks.{marked}
 use Rattle.station.specs.declared.Station.{Station}
-use Rattle.station.specs.Automaton.{advanced-or-same}
-use Rattle.rehearsal.specs.Loops.{blank-station, Stepped-all}
+use Rattle.rehearsal.specs.Loops.{blank-station, stepped, Stepped-all}
 use Rattle.rehearsal.proofs.ArrayLaws.{stepped-none, stepped-turn, put-later}
 use Rattle.rehearsal.proofs.play.step_all.Statement.{statement}
 use Rattle.rehearsal.proofs.play.step_all.Tie as tie
 
 abbrev Inv-loop : tie.InvT-loop
-Inv-loop rows n next₀ j₀ next j = (j ≤ n) × (length next ≡ 32) × Stepped-all next₀ rows n j next × ((k : ℕ) → j ≤ k → getD next k blank-station ≡ getD next₀ k blank-station)
+Inv-loop rows marks n next₀ j₀ next j = (j ≤ n) × (length next ≡ 32) × Stepped-all next₀ rows marks n j next × ((k : ℕ) → j ≤ k → getD next k blank-station ≡ getD next₀ k blank-station)
 
 abbrev μ-loop : tie.MeasureT-loop
-μ-loop rows n next₀ j₀ next j = n - j
+μ-loop rows marks n next₀ j₀ next j = n - j
 
 loop-holds : tie.Need-loop-holds Inv-loop μ-loop
-loop-holds c = (omega arith, search needs, stepped-none _ _ _ _, λ k h. refl)
+loop-holds c = (omega arith, search needs, stepped-none _ _ _ _ _, λ k h. refl)
 
 mul-s : tie.Need-mul-s Inv-loop μ-loop
 mul-s c = search needs
 
 array-copy-out-s : tie.Need-array-copy-out-s Inv-loop μ-loop
 array-copy-out-s c = search needs
+
+cast-is-marked : tie.Need-cast-is-marked Inv-loop μ-loop
+cast-is-marked c = search needs
+
+is-marked-requires : tie.Need-is-marked-requires Inv-loop μ-loop
+is-marked-requires c κs = search needs
 
 step-one-requires : tie.Need-step-one-requires Inv-loop μ-loop
 step-one-requires c κs = search needs
@@ -44,10 +50,13 @@ loop-less c = search needs
 
 loop-again : tie.Need-loop-again Inv-loop μ-loop
 loop-again c =
-    let a = c .before .before .before in
+    let a = c .before .before .before .before in
+    let g = a .before .before .args in
     let p = a .before .before .pre .0 in
     let was = a .loop .inv .3 (a .loop .j) (le-refl (a .loop .j)) in
-    (omega arith, simp length-set (a .loop .inv .1), stepped-turn _ _ _ (a .loop .j) (a .loop .next) _ (omega (arith, a .loop .inv .1)) (a .loop .inv .2) (c .step-one .ensures ∙ ap (λ (s : Station). advanced-or-same s (take (a .before .before .args .n) (drop (a .loop .j * 32) (a .before .before .args .rows .now)))) was), λ k h. put-later (a .loop .next) (a .loop .j) _ k (omega arith) ∙ a .loop .inv .3 k (omega arith))
+    let row = take (g .n) (drop (a .loop .j * 32) (g .rows .now)) in
+    let e = rw (c .before .is-marked .ensures) at (c .step-one .ensures) in
+    (omega arith, simp length-set (a .loop .inv .1), stepped-turn _ _ _ _ (a .loop .j) (a .loop .next) _ (omega (arith, a .loop .inv .1)) (a .loop .inv .2) (e ∙ ap (λ (s : Station). stepped (marked (g .marks) (a .loop .j)) s row) was), λ k h. put-later (a .loop .next) (a .loop .j) _ k (omega arith) ∙ a .loop .inv .3 k (omega arith))
 
 returns : tie.Need-returns Inv-loop μ-loop
 returns c =
@@ -63,6 +72,8 @@ step-all-spec =
     loop-holds
     mul-s
     array-copy-out-s
+    cast-is-marked
+    is-marked-requires
     step-one-requires
     mul-next
     array-set-from-next

@@ -4,19 +4,19 @@ use Prim.Native.Nat.{_≤_, _-_}
 use mathlib.Core.Path.{_≡_, refl, ap, _∙_}
 use native.Mathlib.Omega.{arith}
 use lib.ListN.{length}
-use Rattle.rehearsal.specs.Loops.{over, spread, same}
-use Rattle.rehearsal.proofs.WritingLaws.{over-none, over-turn, over-length, spread-none, spread-turn}
+use Rattle.rehearsal.specs.Loops.{over, same}
+use Rattle.rehearsal.proofs.WritingLaws.{over-none, over-turn, over-length}
 use Rattle.rehearsal.proofs.post.post_same.Statement.{statement}
 use Rattle.rehearsal.proofs.post.post_same.Tie as tie
 
 abbrev Inv-loop : tie.InvT-loop
-Inv-loop log₀ rows₀ at n i b j₀ log rows j = (j ≤ n) × (log ≡ over log₀ at j (same b)) × (rows ≡ spread rows₀ i j (same b))
+Inv-loop log₀ at n b j₀ log j = (j ≤ n) × (log ≡ over log₀ at j (same b))
 
 abbrev μ-loop : tie.MeasureT-loop
-μ-loop log₀ rows₀ at n i b j₀ log rows j = n - j
+μ-loop log₀ at n b j₀ log j = n - j
 
 loop-holds : tie.Need-loop-holds Inv-loop μ-loop
-loop-holds c = (omega arith, over-none _ _ _, spread-none _ _ _)
+loop-holds c = (omega arith, over-none _ _ _)
 
 add-log : tie.Need-add-log Inv-loop μ-loop
 add-log c = search needs
@@ -27,15 +27,6 @@ slice-write-log c =
     let g = a .before .args in
     omega (arith, ap length (a .loop .inv .1) ∙ over-length (g .log .now) (g .at) (same (g .b)) (a .loop .j))
 
-mul-rows : tie.Need-mul-rows Inv-loop μ-loop
-mul-rows c = search needs
-
-add-rows : tie.Need-add-rows Inv-loop μ-loop
-add-rows c = search needs
-
-element-write-rows : tie.Need-element-write-rows Inv-loop μ-loop
-element-write-rows c = omega arith
-
 add-j : tie.Need-add-j Inv-loop μ-loop
 add-j c = search needs
 
@@ -45,8 +36,9 @@ loop-less c = search needs
 loop-again : tie.Need-loop-again Inv-loop μ-loop
 unfolding same
 loop-again c =
-    let a = c .before in let g = a .before .args in let f = same (g .b) in
-    (omega arith, over-turn (g .log .now) (g .at) f (a .loop .j) (a .loop .log) _ (a .loop .inv .1) refl, spread-turn (g .rows .now) (g .i) f (a .loop .j) (a .loop .rows) _ (a .loop .inv .2) refl)
+    let a = c .before in
+    let g = a .before .args in
+    (omega arith, over-turn (g .log .now) (g .at) (same (g .b)) (a .loop .j) (a .loop .log) _ (a .loop .inv .1) refl)
 
 same-length : tie.Need-same-length Inv-loop μ-loop
 same-length c =
@@ -58,7 +50,7 @@ returns : tie.Need-returns Inv-loop μ-loop
 returns c =
     let a = c .before in
     let e : a .loop .j ≡ a .before .args .n = omega arith in
-    rw (← e) (a .loop .inv .1, a .loop .inv .2)
+    rw (← e) (a .loop .inv .1)
 
 pub post-same-spec : {M : Type 1} → statement M
 post-same-spec =
@@ -69,9 +61,6 @@ post-same-spec =
     loop-holds
     add-log
     slice-write-log
-    mul-rows
-    add-rows
-    element-write-rows
     add-j
     loop-less
     loop-again
