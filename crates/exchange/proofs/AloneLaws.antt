@@ -1,16 +1,14 @@
 -- Laws of the exchange had alone: of its loops, of its rows and outcomes as bytes, and of its judgement. Assumes nothing.
-use Prim.Native.Nat.{ℕ, zero, suc, _+_, _-_, _*_, _≤_, _<_}
+use Prim.Native.Nat.{ℕ, _+_, _-_, _*_, _≤_, _<_}
 use mathlib.Core.Path.{_≡_, refl, sym, ap, _∙_}
 use mathlib.Core.Bool.{Bool, true, false, not, _&&_, true≢false}
-use mathlib.Core.Logic.{_≢_, ⊎-elim}
 use mathlib.Core.List.{List}
 use native.Mathlib.Omega.{arith}
-use native.Mathlib.Numerals.{add-one}
-use native.Mathlib.Nat.{zero-mul, one-mul, eq-or-lt-of-le, le-of-suc-le-suc}
+use native.Mathlib.Nat.{zero-mul, one-mul}
 use lib.Dec.{eqb, ltb}
 use borrow.Author.Tests.{ltb-false, eq-eqb}
-use lib.ListN.{length, getD, set, take, length-set}
-use lib.Seq.{getD-set-same, getD-set-other, getD-take, length-take-le, take-all, ext-getD}
+use lib.ListN.{length, getD, take}
+use lib.Seq.{getD-take, length-take-le, take-all, ext-getD}
 use Rattle.line.specs.Count.{if_then_else_, count}
 use Rattle.line.specs.Line.{most-stations, exchange-length, outcomes-length}
 use Rattle.line.specs.Marks.{marked}
@@ -20,6 +18,7 @@ use Rattle.line.specs.declared.cause.Verdict.{Verdict}
 use Rattle.line.specs.declared.cause.Verdict.the-variants.{Accepted}
 use Rattle.line.proofs.CountLaws.{none-passes, count-zero, count-hit, count-miss, count-le}
 use Rattle.line.proofs.LineLaws.{place-from-start}
+use Rattle.line.proofs.WritingLaws.{over-length, front-turn, front-at}
 use Rattle.line.proofs.HeaderLaws.{accepted-false, both-accepted, inside, fitting, length-exact}
 use Rattle.broadcast.specs.Exchange.{Row, Setting, sends, first-row, second-row, seconds, z-of, y-of, grade-of, flag-of, z, y, grade}
 use Rattle.broadcast.specs.Station.{at}
@@ -30,46 +29,24 @@ use Rattle.broadcast.proofs.BytesLaws.{length-tabulate, at-tabulate, outcome-by
 use Rattle.broadcast.proofs.Theorems.{definition-6-alone}
 use Rattle.exchange.specs.Tally.{Graded-is}
 use Rattle.exchange.specs.Alone.{foreign-inputs, inputs-verdict, exchange-verdict, Exchanged}
-use Rattle.exchange.specs.Loops.{received, filled, shown, with-outcome, Ready}
+use Rattle.line.specs.Writing.{over}
+use Rattle.exchange.specs.Loops.{received, shown, with-outcome, Ready}
 use Rattle.exchange.specs.declared.tally.Graded.{Graded}
 
--- ---- a list that a loop fills from the front
+-- ---- the front of a list that a loop fills from the front, and the whole of it
 
 module _ (l : List ℕ) (f : ℕ → ℕ) where
-  pub filled-none : l ≡ filled l 0 f
-  unfolding filled
-  filled-none = refl
-
-  pub filled-more : (m b : ℕ) (now : List ℕ) → now ≡ filled l m f → b ≡ f m → set now m b ≡ filled l (m + 1) f
-  unfolding filled
-  filled-more m b now e q = rw (add-one, e, q)
-
-  pub length-filled : (m : ℕ) → length (filled l m f) ≡ length l
-  unfolding filled
-  length-filled zero = refl
-  length-filled (suc m) = simp length-set (length-filled m)
-
-  pub filled-at : (m k : ℕ) → k < m → m ≤ length l → getD (filled l m f) k 0 ≡ f k
-  unfolding filled
-  filled-at zero k h b = absurd (omega arith)
-  filled-at (suc m) k h b =
-      ⊎-elim
-      (λ (q : k ≡ m). let r : m < length (filled l m f) = rw length-filled (omega arith) in rw (q, getD-set-same))
-      (λ (q : k < m). let ne : k ≢ m = λ e. omega arith in rw getD-set-other (filled-at m k q (omega arith)))
-      (eq-or-lt-of-le (le-of-suc-le-suc h))
-
-  -- its front, and the whole of it
-  pub take-filled : (m : ℕ) → m ≤ length l → take m (filled l m f) ≡ tabulate m f
+  pub take-front : (m : ℕ) → m ≤ length l → take m (over l 0 m f) ≡ tabulate m f
   unfolding at
-  take-filled m h =
-      let s : length (take m (filled l m f)) ≡ m = length-take-le m (filled l m f) (rw length-filled h) in
+  take-front m h =
+      let s : length (take m (over l 0 m f)) ≡ m = length-take-le m (over l 0 m f) (rw over-length h) in
       ext-getD 0 _ _ (s ∙ sym (length-tabulate m f))
-      (λ k b. let p : k < m = omega arith in rw getD-take (filled-at m k p h ∙ sym (at-tabulate m f k p)))
+      (λ k b. let p : k < m = omega arith in rw getD-take (front-at l f m k p h ∙ sym (at-tabulate m f k p)))
 
-  pub filled-whole : (m : ℕ) → length l ≡ m → filled l m f ≡ tabulate m f
-  filled-whole m h =
-      let s : length (filled l m f) ≤ m = rw length-filled (omega arith) in
-      sym (take-all m (filled l m f) s) ∙ take-filled m (omega arith)
+  pub front-whole : (m : ℕ) → length l ≡ m → over l 0 m f ≡ tabulate m f
+  front-whole m h =
+      let s : length (over l 0 m f) ≤ m = rw over-length (omega arith) in
+      sym (take-all m (over l 0 m f) s) ∙ take-front m (omega arith)
 
 -- ---- counting foreign inputs
 
@@ -140,10 +117,10 @@ module _ (n t T marks : ℕ) (inputs table : List ℕ) where
   pub outcome : ℕ → ℕ
   outcome = outcome-byte S (y S 1 x) (grade S 1 x) (λ i. flag-of (grade S 1 x i))
 
-  pub outcomes-filled : (l : List ℕ) → length l ≡ outcomes-length n
-      → filled l (outcomes-length n) outcome ≡ exchange-outcomes n t T marks inputs table
+  pub outcomes-written : (l : List ℕ) → length l ≡ outcomes-length n
+      → over l 0 (outcomes-length n) outcome ≡ exchange-outcomes n t T marks inputs table
   unfolding outcome exchange-outcomes outcome-bytes setting
-  outcomes-filled l h = filled-whole l outcome (outcomes-length n) h
+  outcomes-written l h = front-whole l outcome (outcomes-length n) h
 
   -- byte d of station j
   outcome-shown : (j d b : ℕ) → d < 3 → b ≡ (if eqb d 0 then y S 1 x j else (if eqb d 1 then grade S 1 x j else flag-of (grade S 1 x j)))
@@ -151,23 +128,23 @@ module _ (n t T marks : ℕ) (inputs table : List ℕ) where
   unfolding outcome shown setting
   outcome-shown j d b h e = rw (e, outcome-byte-at S (y S 1 x) (grade S 1 x) (λ i. flag-of (grade S 1 x i)) j d h)
 
-  outcome-more : (l now : List ℕ) (j : ℕ) (r : Graded) → now ≡ filled l (3 * j) outcome
+  outcome-more : (l now : List ℕ) (j : ℕ) (r : Graded) → now ≡ over l 0 (3 * j) outcome
       → (r .y ≡ y S 1 x j) × (r .grade ≡ grade S 1 x j)
-      → with-outcome now j (marked marks j) (r .y) (r .grade) ≡ filled l (3 * (j + 1)) outcome
+      → with-outcome now j (marked marks j) (r .y) (r .grade) ≡ over l 0 (3 * (j + 1)) outcome
   unfolding with-outcome
   outcome-more l now j r e q =
       let e₀ : 3 * j + 0 ≡ 3 * j = omega arith in
       let e₁ : 3 * j + 1 + 1 ≡ 3 * j + 2 = omega arith in
       let e₂ : 3 * j + 2 + 1 ≡ 3 * (j + 1) = omega arith in
       let b₀ : shown (marked marks j) (r .y) ≡ outcome (3 * j) = rw e₀ at (outcome-shown j 0 (r .y) (omega arith) (q .0)) in
-      let f₁ = filled-more l outcome (3 * j) _ now e b₀ in
-      let f₂ = rw e₁ at (filled-more l outcome (3 * j + 1) _ _ f₁ (outcome-shown j 1 (r .grade) (omega arith) (q .1))) in
-      rw e₂ at (filled-more l outcome (3 * j + 2) _ _ f₂ (outcome-shown j 2 (flag-of (r .grade)) (omega arith) (ap flag-of (q .1))))
+      let f₁ = front-turn l outcome (3 * j) now _ e b₀ in
+      let f₂ = rw e₁ at (front-turn l outcome (3 * j + 1) _ _ f₁ (outcome-shown j 1 (r .grade) (omega arith) (q .1))) in
+      rw e₂ at (front-turn l outcome (3 * j + 2) _ _ f₂ (outcome-shown j 2 (flag-of (r .grade)) (omega arith) (ap flag-of (q .1))))
 
   -- one station more, from its second row
-  pub outcome-turn : (l now zs : List ℕ) (j : ℕ) (r : Graded) → now ≡ filled l (3 * j) outcome
+  pub outcome-turn : (l now zs : List ℕ) (j : ℕ) (r : Graded) → now ≡ over l 0 (3 * j) outcome
       → ((k : ℕ) → k < n → getD zs k 0 ≡ z S 1 x k) → Graded-is t T (tabulate n (received zs table (n * n) n marks j)) r
-      → with-outcome now j (marked marks j) (r .y) (r .grade) ≡ filled l (3 * (j + 1)) outcome
+      → with-outcome now j (marked marks j) (r .y) (r .grade) ≡ over l 0 (3 * (j + 1)) outcome
   outcome-turn l now zs j r e h g = outcome-more l now j r e (graded-received zs h j r g)
 
 -- ---- the judgement

@@ -1,5 +1,5 @@
 -- What the private functions of the exchange had alone read and write: for their contracts, and no part of what the public call promises.
-use Prim.Native.Nat.{ℕ, zero, suc, _+_, _*_, _≤_}
+use Prim.Native.Nat.{ℕ, _+_, _*_, _≤_}
 use mathlib.Core.Path.{_≡_}
 use mathlib.Core.Bool.{Bool}
 use mathlib.Core.List.{List}
@@ -15,11 +15,6 @@ use Rattle.broadcast.specs.Guarantees.{Good}
 unfoldable pub received : List ℕ → List ℕ → ℕ → ℕ → ℕ → ℕ → ℕ → ℕ
 received said table start n marks j i =
     if marked marks i then getD table (start + (i * n + j)) 0 else getD said i 0
-
--- l with f k stored at k, for k below m
-unfoldable pub filled : List ℕ → ℕ → (ℕ → ℕ) → List ℕ
-filled l zero f = l
-filled l (suc m) f = set (filled l m f) m (f m)
 
 -- a byte of an outcome
 unfoldable pub shown : Bool → ℕ → ℕ

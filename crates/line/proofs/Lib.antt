@@ -4,3 +4,4 @@ pub mod LineLaws
 pub mod MarksLaws
 pub mod BallotLaws
 pub mod HeaderLaws
+pub mod WritingLaws

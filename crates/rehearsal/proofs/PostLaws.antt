@@ -15,8 +15,10 @@ use Rattle.station.specs.declared.Station.{Station}
 use Rattle.station.specs.Automaton.{ballot-or-silence, advanced-or-same}
 use Rattle.broadcast.specs.Bytes.{tabulate}
 use Rattle.broadcast.proofs.BytesLaws.{length-tabulate, getD-tabulate}
-use Rattle.rehearsal.specs.Loops.{over, spread, spread-if, each-of, from-table, either, blank-station, told, Told-all, Laid, posted-byte, Posted, stepped, Stepped-all, ballot-of, Round}
-use Rattle.rehearsal.proofs.WritingLaws.{over-length, over-before, over-at, spread-length, spread-other, spread-at}
+use Rattle.line.specs.Writing.{over}
+use Rattle.rehearsal.specs.Loops.{spread, spread-if, each-of, from-table, either, blank-station, told, Told-all, Laid, posted-byte, Posted, stepped, Stepped-all, ballot-of, Round}
+use Rattle.line.proofs.WritingLaws.{over-length, over-before, over-at}
+use Rattle.rehearsal.proofs.WritingLaws.{spread-other, spread-at}
 
 pub row-within : (i n m : ℕ) → i < m → i * n + n ≤ m * n
 row-within i n m h = rw suc-mul at (mul-le-mul-right n h)

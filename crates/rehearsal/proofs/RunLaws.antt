@@ -29,8 +29,9 @@ use Rattle.station.specs.Judgement as judgement
 use Rattle.station.specs.Answers.{outcome-by}
 use Rattle.station.specs.Automaton.{setup-of, opened-station, outcome-of, ballot-or-silence, advanced-or-same}
 use Rattle.station.proofs.SoundLaws.{sound-accepts, telling-accepts, taking-accepts}
-use Rattle.rehearsal.specs.Loops.{over, either, blank-station, Opened-all, posted-byte, ballot-of, Round, station-after, Playable, Played, pick, result-byte, outcome-byte, outcome-at}
-use Rattle.rehearsal.proofs.WritingLaws.{over-length, over-at}
+use Rattle.line.specs.Writing.{over}
+use Rattle.rehearsal.specs.Loops.{either, blank-station, Opened-all, posted-byte, ballot-of, Round, station-after, Playable, Played, pick, result-byte, outcome-byte, outcome-at}
+use Rattle.line.proofs.WritingLaws.{over-length, over-at}
 use Rattle.rehearsal.proofs.PostLaws.{row-within}
 
 module _ (R : Run) (bytes₀ : List ℕ) (ready : Playable R bytes₀) where

@@ -29,11 +29,6 @@ pub record Playable (R : Run) (bytes : List ℕ) : Type 0 where
 
 -- ---- writing
 
--- l with F k stored at a + k, for k below m
-unfoldable pub over : List ℕ → ℕ → ℕ → (ℕ → ℕ) → List ℕ
-over l a zero F = l
-over l a (suc m) F = set (over l a m F) (a + m) (F m)
-
 -- l with F k stored at k * 32 + i, for k below m: byte i of each of m rows
 unfoldable pub spread : List ℕ → ℕ → ℕ → (ℕ → ℕ) → List ℕ
 spread l i zero F = l

@@ -2,7 +2,8 @@
 ghost use mathlib.Core.Path.{_≡_};
 ghost use Prim.Native.Nat.{_+_, _*_, _≤_, _<_};
 ghost use lib.ListN.{length};
-ghost use Rattle.rehearsal.specs.Loops.{over, spread, each-of, same, from-table, either, spread-if, Laid, Posted, posted-byte};
+ghost use Rattle.line.specs.Writing.{over};
+ghost use Rattle.rehearsal.specs.Loops.{spread, each-of, same, from-table, either, spread-if, Laid, Posted, posted-byte};
 use line::marks;
 
 // Row j is what the steps make each station send.

@@ -3,7 +3,7 @@ use borrow.Author.Needs.{needs}
 use mathlib.Core.Path.{ap, sym, _∙_}
 use native.Mathlib.Omega.{arith}
 use lib.ListN.{length}
-use Rattle.rehearsal.proofs.WritingLaws.{over-length}
+use Rattle.line.proofs.WritingLaws.{over-length}
 use Rattle.rehearsal.proofs.RunLaws.{log-made, outcomes-made}
 use Rattle.rehearsal.proofs.run.Statement.{statement}
 use Rattle.rehearsal.proofs.run.Tie as tie

@@ -8,14 +8,15 @@ use Rattle.broadcast.specs.Exchange.{z}
 use Rattle.broadcast.specs.Station.{at}
 use Rattle.broadcast.specs.Bytes.{setting}
 use Rattle.broadcast.proofs.BytesLaws.{length-tabulate}
-use Rattle.exchange.specs.Loops.{filled}
-use Rattle.exchange.proofs.AloneLaws.{filled-none, filled-more, filled-at, z-received}
+use Rattle.line.specs.Writing.{over}
+use Rattle.line.proofs.WritingLaws.{over-none, front-turn, front-at}
+use Rattle.exchange.proofs.AloneLaws.{z-received}
 use Rattle.exchange.proofs.alone.first_round.Statement.{statement}
 use Rattle.exchange.proofs.alone.first_round.Tie as tie
 
 abbrev Inv-loop : tie.InvT-loop
 Inv-loop line marks inputs table n zs₀ j₀ zs j =
-    (j ≤ n) × (zs ≡ filled zs₀ j (z (setting (line .n) (line .t) (line .upper) marks table) 1 (at inputs)))
+    (j ≤ n) × (zs ≡ over zs₀ 0 j (z (setting (line .n) (line .t) (line .upper) marks table) 1 (at inputs)))
 
 abbrev μ-loop : tie.MeasureT-loop
 μ-loop line marks inputs table n zs₀ j₀ zs j = n - j
@@ -24,7 +25,7 @@ cast-n : tie.Need-cast-n Inv-loop μ-loop
 cast-n c = search needs
 
 loop-holds : tie.Need-loop-holds Inv-loop μ-loop
-loop-holds c = (omega arith, filled-none _ _)
+loop-holds c = (omega arith, over-none _ _ _)
 
 receive-requires : tie.Need-receive-requires Inv-loop μ-loop
 receive-requires c κs = search needs
@@ -56,7 +57,7 @@ loop-again c =
     let g = c .before .before .before .before .before .before .before .before .before .args in
     let l = c .before .before .before .before .before .loop in (
       omega arith,
-      filled-more _ _ (l .j) _ _ (l .inv .1)
+      front-turn _ _ (l .j) _ _ (l .inv .1)
           (rw (c .z .ensures, c .before .before .before .receive .ensures)
           (z-received (g .line .n) (g .line .t) (g .line .upper) (g .marks) (g .inputs .now) (g .table .now) (l .j))),
     )
@@ -65,7 +66,7 @@ returns : tie.Need-returns Inv-loop μ-loop
 returns c =
     let n = c .before .before .before .before .before .args .line .n in
     let e : c .before .loop .j ≡ n = omega arith in
-    λ k h. rw (c .before .loop .inv .1, e) (filled-at _ _ n k h (omega arith))
+    λ k h. rw (c .before .loop .inv .1, e) (front-at _ _ n k h (omega arith))
 
 pub first-round-spec : {M : Type 1} → statement M
 first-round-spec =

@@ -6,14 +6,16 @@ use native.Mathlib.Omega.{arith}
 use native.Mathlib.Nat.{zero-mul}
 use lib.Arith.{digits-lt}
 use Rattle.line.proofs.LineLaws.{next-row}
-use Rattle.exchange.specs.Loops.{received, filled}
-use Rattle.exchange.proofs.AloneLaws.{filled-none, filled-more, take-filled}
+use Rattle.line.specs.Writing.{over}
+use Rattle.exchange.specs.Loops.{received}
+use Rattle.line.proofs.WritingLaws.{over-none, front-turn}
+use Rattle.exchange.proofs.AloneLaws.{take-front}
 use Rattle.exchange.proofs.alone.receive.Statement.{statement}
 use Rattle.exchange.proofs.alone.receive.Tie as tie
 
 abbrev Inv-loop : tie.InvT-loop
 Inv-loop said table start n marks j row₀ i₀ at₀ row i at =
-    (i ≤ n) × (at ≡ start + (i * n + j)) × (row ≡ filled row₀ i (received said table start n marks j))
+    (i ≤ n) × (at ≡ start + (i * n + j)) × (row ≡ over row₀ 0 i (received said table start n marks j))
 
 abbrev μ-loop : tie.MeasureT-loop
 μ-loop said table start n marks j row₀ i₀ at₀ row i at = n - i
@@ -22,7 +24,7 @@ add-at : tie.Need-add-at Inv-loop μ-loop
 add-at c = search needs
 
 loop-holds : tie.Need-loop-holds Inv-loop μ-loop
-loop-holds c = (omega arith, omega (arith, zero-mul (c .before .before .args .n)), filled-none _ _)
+loop-holds c = (omega arith, omega (arith, zero-mul (c .before .before .args .n)), over-none _ _ _)
 
 cast-is-marked : tie.Need-cast-is-marked Inv-loop μ-loop
 cast-is-marked c = search needs
@@ -64,13 +66,13 @@ loop-again c =
     let l = c .before .before .before .before .before .loop in (
       omega arith,
       omega (arith, next-row (l .i) (g .args .n)),
-      filled-more _ _ (l .i) _ _ (l .inv .2) (c .sent .ensures ∙ rw (c .before .before .before .is-marked .ensures, l .inv .1)),
+      front-turn _ _ (l .i) _ _ (l .inv .2) (c .sent .ensures ∙ rw (c .before .before .before .is-marked .ensures, l .inv .1)),
     )
 
 returns : tie.Need-returns Inv-loop μ-loop
 returns c =
     let e : c .before .loop .i ≡ c .before .before .before .before .args .n = omega arith in
-    rw (c .before .loop .inv .2, e) (take-filled _ _ (c .before .before .before .before .args .n) (omega arith))
+    rw (c .before .loop .inv .2, e) (take-front _ _ (c .before .before .before .before .args .n) (omega arith))
 
 pub receive-spec : {M : Type 1} → statement M
 receive-spec =

@@ -4,14 +4,15 @@ use Prim.Native.Nat.{_≤_, _-_, _*_}
 use mathlib.Core.Path.{_≡_, ap, _∙_}
 use native.Mathlib.Omega.{arith}
 use lib.ListN.{length}
-use Rattle.exchange.specs.Loops.{filled}
-use Rattle.exchange.proofs.AloneLaws.{filled-none, length-filled, outcome, outcomes-filled, outcome-turn}
+use Rattle.line.specs.Writing.{over}
+use Rattle.line.proofs.WritingLaws.{over-none, over-length}
+use Rattle.exchange.proofs.AloneLaws.{outcome, outcomes-written, outcome-turn}
 use Rattle.exchange.proofs.alone.write_outcomes.Statement.{statement}
 use Rattle.exchange.proofs.alone.write_outcomes.Tie as tie
 
 abbrev Inv-loop : tie.InvT-loop
 Inv-loop line marks inputs table outcomes₀ n zs j₀ outcomes j =
-    (j ≤ n) × (outcomes ≡ filled outcomes₀ (3 * j) (outcome (line .n) (line .t) (line .upper) marks inputs table))
+    (j ≤ n) × (outcomes ≡ over outcomes₀ 0 (3 * j) (outcome (line .n) (line .t) (line .upper) marks inputs table))
 
 abbrev μ-loop : tie.MeasureT-loop
 μ-loop line marks inputs table outcomes₀ n zs j₀ outcomes j = n - j
@@ -23,7 +24,7 @@ first-round-requires : tie.Need-first-round-requires Inv-loop μ-loop
 first-round-requires c κs = search needs
 
 loop-holds : tie.Need-loop-holds Inv-loop μ-loop
-loop-holds c = (omega arith, filled-none _ _)
+loop-holds c = (omega arith, over-none _ _ _)
 
 slice-aggregate-second-round : tie.Need-slice-aggregate-second-round Inv-loop μ-loop
 slice-aggregate-second-round c = search needs
@@ -38,7 +39,7 @@ is-marked-requires : tie.Need-is-marked-requires Inv-loop μ-loop
 is-marked-requires c κs = search needs
 
 write-outcome-requires : tie.Need-write-outcome-requires Inv-loop μ-loop
-write-outcome-requires c κs = omega (arith, ap length (c .before .before .before .before .before .loop .inv .1) ∙ length-filled _ _ _)
+write-outcome-requires c κs = omega (arith, ap length (c .before .before .before .before .before .loop .inv .1) ∙ over-length _ _ _ _)
 
 add-j : tie.Need-add-j Inv-loop μ-loop
 add-j c = search needs
@@ -58,7 +59,7 @@ loop-again c =
     )
 
 same-length : tie.Need-same-length Inv-loop μ-loop
-same-length c = ap length (c .before .loop .inv .1) ∙ length-filled _ _ _
+same-length c = ap length (c .before .loop .inv .1) ∙ over-length _ _ _ _
 
 returns : tie.Need-returns Inv-loop μ-loop
 returns c =
@@ -66,7 +67,7 @@ returns c =
     let g = s .args in
     let e : c .before .loop .j ≡ g .line .n = omega arith in
     c .before .loop .inv .1
-    ∙ rw e (outcomes-filled (g .line .n) (g .line .t) (g .line .upper) (g .marks) (g .inputs .now) (g .table .now) _ (s .pre .outcomes-whole))
+    ∙ rw e (outcomes-written (g .line .n) (g .line .t) (g .line .upper) (g .marks) (g .inputs .now) (g .table .now) _ (s .pre .outcomes-whole))
 
 pub write-outcomes-spec : {M : Type 1} → statement M
 write-outcomes-spec =

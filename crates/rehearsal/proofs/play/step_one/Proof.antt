@@ -1,7 +1,7 @@
 -- `play::step_one` meets its contract: its row is the part of the rows that starts at j * 32.
 use borrow.Author.Needs.{needs}
 use Prim.Native.Nat.{_+_, _-_, _*_}
-use mathlib.Core.Path.{_≡_, _∙_}
+use mathlib.Core.Path.{_≡_}
 use native.Mathlib.Omega.{arith}
 use Rattle.rehearsal.specs.Loops.{stepped}
 use Rattle.rehearsal.proofs.play.step_one.Statement.{statement}

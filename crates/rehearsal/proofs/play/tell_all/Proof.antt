@@ -1,7 +1,7 @@
 -- `play::tell_all` meets its contract. The loop's invariant: the first i stations have told.
 use borrow.Author.Needs.{needs}
 use Prim.Native.Nat.{_≤_, _-_}
-use mathlib.Core.Path.{_≡_, refl, ap, _∙_}
+use mathlib.Core.Path.{_≡_, refl}
 use native.Mathlib.Omega.{arith}
 use lib.ListN.{length, length-set}
 use Rattle.rehearsal.specs.Loops.{Told-all}

@@ -4,8 +4,9 @@ use Prim.Native.Nat.{_≤_, _-_}
 use mathlib.Core.Path.{_≡_, refl}
 use native.Mathlib.Omega.{arith}
 use lib.ListN.{length, length-set}
-use Rattle.rehearsal.specs.Loops.{over, outcome-at}
-use Rattle.rehearsal.proofs.WritingLaws.{over-none, front-turn}
+use Rattle.line.specs.Writing.{over}
+use Rattle.rehearsal.specs.Loops.{outcome-at}
+use Rattle.line.proofs.WritingLaws.{over-none, front-turn}
 use Rattle.rehearsal.proofs.play.write_outcomes.Statement.{statement}
 use Rattle.rehearsal.proofs.play.write_outcomes.Tie as tie
 

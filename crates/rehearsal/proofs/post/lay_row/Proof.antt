@@ -1,11 +1,11 @@
 -- `post::lay_row` meets its contract. The loop's invariant: i bytes are laid.
 use borrow.Author.Needs.{needs}
 use Prim.Native.Nat.{_≤_, _-_, _*_}
-use mathlib.Core.Path.{_≡_, refl, ap, _∙_}
+use mathlib.Core.Path.{_≡_, refl}
 use native.Mathlib.Omega.{arith}
-use lib.ListN.{length}
-use Rattle.rehearsal.specs.Loops.{over, each-of}
-use Rattle.rehearsal.proofs.WritingLaws.{over-none, over-turn}
+use Rattle.line.specs.Writing.{over}
+use Rattle.rehearsal.specs.Loops.{each-of}
+use Rattle.line.proofs.WritingLaws.{over-none, over-turn}
 use Rattle.rehearsal.proofs.post.lay_row.Statement.{statement}
 use Rattle.rehearsal.proofs.post.lay_row.Tie as tie
 

@@ -1,8 +1,9 @@
 -- `post::post` meets its contract: each arm writes what `either` says.
 use borrow.Author.Needs.{needs}
-use mathlib.Core.Path.{_≡_, refl, sym, ap, _∙_}
+use mathlib.Core.Path.{_∙_}
 use Rattle.rehearsal.specs.Loops.{spread-if}
-use Rattle.rehearsal.proofs.WritingLaws.{over-same, either-table, either-same}
+use Rattle.line.proofs.WritingLaws.{over-same}
+use Rattle.rehearsal.proofs.WritingLaws.{either-table, either-same}
 use Rattle.rehearsal.proofs.post.post.Statement.{statement}
 use Rattle.rehearsal.proofs.post.post.Tie as tie
 

@@ -4,8 +4,9 @@ use Prim.Native.Nat.{_≤_, _-_}
 use mathlib.Core.Path.{_≡_, refl, ap, _∙_}
 use native.Mathlib.Omega.{arith}
 use lib.ListN.{length}
-use Rattle.rehearsal.specs.Loops.{over, same}
-use Rattle.rehearsal.proofs.WritingLaws.{over-none, over-turn, over-length}
+use Rattle.line.specs.Writing.{over}
+use Rattle.rehearsal.specs.Loops.{same}
+use Rattle.line.proofs.WritingLaws.{over-none, over-turn, over-length}
 use Rattle.rehearsal.proofs.post.post_same.Statement.{statement}
 use Rattle.rehearsal.proofs.post.post_same.Tie as tie
 

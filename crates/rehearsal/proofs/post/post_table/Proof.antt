@@ -3,9 +3,11 @@ use borrow.Author.Needs.{needs}
 use Prim.Native.Nat.{_≤_, _-_}
 use mathlib.Core.Path.{_≡_, refl, ap, _∙_}
 use native.Mathlib.Omega.{arith}
-use lib.ListN.{length, length-set}
-use Rattle.rehearsal.specs.Loops.{over, spread, from-table}
-use Rattle.rehearsal.proofs.WritingLaws.{over-none, over-turn, over-length, spread-none, spread-turn, spread-length}
+use lib.ListN.{length}
+use Rattle.line.specs.Writing.{over}
+use Rattle.rehearsal.specs.Loops.{spread, from-table}
+use Rattle.line.proofs.WritingLaws.{over-none, over-turn, over-length}
+use Rattle.rehearsal.proofs.WritingLaws.{spread-none, spread-turn}
 use Rattle.rehearsal.proofs.post.post_table.Statement.{statement}
 use Rattle.rehearsal.proofs.post.post_table.Tie as tie
 
