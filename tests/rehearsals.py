@@ -112,12 +112,17 @@ REFUSED = (
 
 
 def lengths():
-    for table, log, outcomes in (143, 144, 12), (145, 144, 12), (144, 143, 12), (144, 145, 12), (144, 144, 11), (144, 144, 13), (0, 0, 0), (144, 144, 12):
-        yield (4, 1, 1, 1, 1, 8), [255] * table, log, outcomes
+    for table in 143, 145:
+        yield (4, 1, 1, 1, 1, 8), [255] * table, 144, 12
+    for log, outcomes in (143, 12), (145, 12), (144, 11), (144, 13):
+        yield (4, 1, 1, 1, 1, 8), [255] * 144, log, outcomes
+    yield (4, 1, 1, 1, 1, 8), [], 0, 0
+    yield (4, 1, 1, 1, 1, 8), [255] * 144, 144, 12
 
 
 def conflicts():
-    for call in (0, 2, 1, 0, 2, 64), (4, 2, 1, 0, 2, 64), (4, 1, 1, 0, 2, 64), (4, 1, 1, 4, 2, 64), (4, 1, 1, 4, 1, 64), (4, 1, 1, 4, 1, 8):
+    wrong, right = (0, 2, 1, 0, 2, 64), (4, 1, 1, 4, 1, 8)
+    for call in wrong, (4, 2, 1, 0, 2, 64), right[:3] + wrong[3:], right[:4] + wrong[4:], right[:5] + wrong[5:], right:
         yield call, [255] * 7, 5, 4
 
 

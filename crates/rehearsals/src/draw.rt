@@ -55,7 +55,7 @@ pub(crate) fn call(seed: u64) -> Call {
     let value = pick(e, 1);
     let f = next(e);
     let rate = pick(f, 8);
-    run::call_with(
+    run::header(
         others + 1,
         t,
         upper,

@@ -1,4 +1,4 @@
-// Rehearsals of many lines, a line of text for each: document 01's cases, the largest line, refused calls, and calls that a generator draws.
+// Rehearsals of many lines, a line of text for each: document 01's cases, the largest line, refused calls, and calls drawn by a generator.
 // tests/rehearsals.py prints the same text by an implementation of its own.
 mod cases;
 mod draw;

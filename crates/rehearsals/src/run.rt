@@ -14,7 +14,8 @@ pub(crate) struct Call {
     pub marks: u32,
 }
 
-pub(crate) fn call_with(n: u8, t: u8, upper: u8, sender: u8, value: u8, marks: u32) -> Call {
+// Such a call.
+pub(crate) fn header(n: u8, t: u8, upper: u8, sender: u8, value: u8, marks: u32) -> Call {
     Call {
         n,
         t,
@@ -54,7 +55,7 @@ fn lend(k: u64, c: Call, table: &[u8], log: &mut [u8], outcomes: &mut [u8]) {
 }
 
 // A run with parts of the log and the outcomes of these lengths.
-pub(crate) fn run(
+pub(crate) fn run_parts(
     k: u64,
     c: Call,
     table: &[u8],
@@ -72,7 +73,7 @@ pub(crate) fn run(
 pub(crate) fn run_whole(k: u64, c: Call, table: &[u8], log: &mut [u8], outcomes: &mut [u8]) {
     let line = line_of(c);
     let a = within(line.table_len(), table);
-    run(
+    run_parts(
         k,
         c,
         &table[..a],
