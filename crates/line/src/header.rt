@@ -5,7 +5,8 @@ use crate::Line;
 use crate::cause::Cause;
 use crate::cause::Verdict;
 
-fn outside(low: u8, high: u8, x: u8) -> bool
+// Below low or above high.
+pub fn outside(low: u8, high: u8, x: u8) -> bool
     ensures { λ r. ⌜ r ≡ outside low high x ⌝ }
 {
     if x < low {

@@ -1,0 +1,57 @@
+-- What the reader fills and answers, and what it promises.
+use Prim.Native.Nat.{ℕ, zero, suc, _-_}
+use mathlib.Core.Path.{_≡_}
+use mathlib.Core.List.{List, [], _∷_}
+use lib.ListN.{length, set, replicate}
+use Rattle.line.specs.Line.{table-length, place}
+use Rattle.line.specs.Ballot.{silence}
+use Rattle.line.specs.Cause.{number, code, written}
+use Rattle.line.specs.declared.cause.Verdict.{Verdict}
+use Rattle.line.specs.declared.cause.Verdict.the-variants as verdict
+use Rattle.sheet.specs.declared.Header.{Header}
+use Rattle.sheet.specs.declared.Reading.{Reading}
+use Rattle.sheet.specs.declared.Reading.the-variants as reading
+use Rattle.sheet.specs.Layout.{header, round, from, to, ballot}
+use Rattle.sheet.specs.Chain.{reached, Fate, leaves, again, ends}
+use Rattle.sheet.specs.Judgement.{sheet-verdict}
+
+-- ---- the table
+
+-- the place in the table of the record with index i
+unfoldable pub place-of : List ℕ → ℕ → ℕ
+place-of s i = place (header s .n) (round s i) (from s i - 1) (to s i - 1)
+
+-- "The reader fills a run table: 255 everywhere, then each chained ballot in its place": after the first m records of the chain
+unfoldable pub filled : List ℕ → ℕ → List ℕ
+filled s zero = replicate (table-length (header s .n) (header s .t)) silence
+filled s (suc m) = set (filled s m) (place-of s (reached s m)) (ballot s (reached s m))
+
+-- the table of a sheet whose chain ends; no other sheet has one
+abbrev pub table-of : (s : List ℕ) → Fate s → List ℕ
+table-of s (leaves l) = []
+table-of s (again a) = []
+table-of s (ends m e) = filled s m
+
+-- ---- the answer: for each case of the enum, document 01's number, 0 where nothing is refused, and its values
+
+abbrev pub reading-number : Reading → ℕ
+reading-number (reading.Accepted h) = 0
+reading-number (reading.Refused c) = number c
+
+abbrev pub reading-values : Reading → List ℕ
+reading-values (reading.Accepted h) = h .n ∷ h .t ∷ h .upper ∷ h .sender ∷ h .value ∷ h .marks ∷ []
+reading-values (reading.Refused c) = []
+
+abbrev pub reading-by : Verdict → Header → Reading
+reading-by verdict.Accepted h = reading.Accepted h
+reading-by (verdict.Refused c) h = reading.Refused c
+
+-- The promise, for every sheet and every buffer. `table₀` is the lent table at entry, `table₁` at exit.
+pub record Reads (s table₀ table₁ : List ℕ) (answer : Reading) : Type 0 where
+  -- what becomes of the sheet's chain: there is one fate only (`one-fate` of Theorems.antt)
+  pub fate : Fate s
+  -- the header's numbers, or the refusal
+  pub answer-is : answer ≡ reading-by (sheet-verdict s (length table₀) fate) (header s)
+  pub number-is : reading-number answer ≡ code (sheet-verdict s (length table₀) fate)
+  -- every byte of the table at exit: the sheet's, or as it was
+  pub table-is : table₁ ≡ written (sheet-verdict s (length table₀) fate) (table-of s fate) table₀
