@@ -49,7 +49,8 @@ pigeonhole (suc k) f h = ⊎-elim
     (λ p. (p .0, (suc k, (p .1 .0, (le-refl _, p .1 .1)))))
     (λ none.
     let v = f (suc k) in
-    let apart = λ (m : ℕ) (l : m ≤ k). squeezed v (f m) (none m (omega arith)) in
+    let apart : (m : ℕ) → m ≤ k → ((v < f m) × (squeeze v (f m) ≡ f m - 1)) ⊎ ((f m < v) × (squeeze v (f m) ≡ f m)) =
+    λ m l. squeezed v (f m) (none m (omega arith)) in
     let t = pigeonhole k (λ m. squeeze v (f m)) (λ m p. ⊎-elim
     (λ q. omega (arith, h m (omega arith), h (suc k) (le-refl _), q .0, q .1))
     (λ q. omega (arith, h m (omega arith), h (suc k) (le-refl _), q .0, q .1))
