@@ -1,13 +1,13 @@
 -- Laws of `over`: what stands where after the writing. Assumes nothing.
 use Prim.Native.Nat.{ℕ, zero, suc, _+_, _≤_, _<_}
 use mathlib.Core.Logic.{⊎-elim, _≢_}
-use mathlib.Core.Path.{_≡_, refl}
+use mathlib.Core.Path.{_≡_, refl, sym, _∙_}
 use mathlib.Core.List.{List}
 use native.Mathlib.Numerals.{add-one}
 use native.Mathlib.Nat.{eq-or-lt-of-le, le-of-suc-le-suc}
 use native.Mathlib.Omega.{arith}
-use lib.ListN.{length, getD, set, length-set}
-use lib.Seq.{getD-set-same, getD-set-other}
+use lib.ListN.{length, getD, set, replicate, length-set, length-replicate, getD-replicate}
+use lib.Seq.{getD-set-same, getD-set-other, ext-getD}
 use Rattle.line.specs.Writing.{over}
 
 module _ (l : List ℕ) (a : ℕ) (F : ℕ → ℕ) where
@@ -54,3 +54,12 @@ front-turn l F m l′ v e q = let z : 0 + m ≡ m = omega arith in rw z at (over
 
 pub front-at : (l : List ℕ) (F : ℕ → ℕ) (m k : ℕ) → k < m → m ≤ length l → getD (over l 0 m F) k 0 ≡ F k
 front-at l F m k h b = let z : 0 + k ≡ k = omega arith in rw z at (over-at l 0 F m k h (omega arith))
+
+-- a loop that writes one value from the front to the end leaves nothing else
+pub over-all : (l : List ℕ) (v : ℕ) → over l 0 (length l) (λ k. v) ≡ replicate (length l) v
+over-all l v =
+    ext-getD 0 _ _
+    (over-length l 0 (λ k. v) (length l) ∙ sym (length-replicate (length l) v))
+    (λ k h.
+    let b : k < length l = rw over-length at h in
+    front-at l (λ k. v) (length l) k b (omega arith) ∙ sym (getD-replicate (length l) k v 0 b))

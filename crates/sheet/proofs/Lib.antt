@@ -1,1 +1,3 @@
 pub mod PigeonholeLaws
+pub mod LayoutLaws
+pub mod PlaceLaws

@@ -20,8 +20,8 @@ use Rattle.sheet.specs.Chain.{reached, Fate, leaves, again, ends}
 -- "sheet length not 12 + 8k with k from 0 to 4,096, or byte 5 not zero"
 unfoldable pub ill-formed : List ℕ → Bool
 ill-formed s =
-    not (eqb (length s) (12 + 8 * records s))
-    || ltb most-records (records s)
+    ltb most-records (records s)
+    || not (eqb (length s) (12 + 8 * records s))
     || not (eqb (spare s) 0)
 
 unfoldable pub sheet-form : List ℕ → Verdict
@@ -30,9 +30,8 @@ sheet-form s = refused-if (ill-formed s) SheetForm
 -- 2 to 6 of the header, and 8 of the lent table's length
 unfoldable pub line-and-length : List ℕ → ℕ → Verdict
 line-and-length s table =
-    let h = header s in
-    header-verdict (h .n) (h .t) (h .upper) (h .sender) (h .value) (h .marks)
-    or-else exact-length (table-length (h .n) (h .t)) table
+    header-verdict (header s .n) (header s .t) (header s .upper) (header s .sender) (header s .value) (header s .marks)
+    or-else exact-length (table-length (header s .n) (header s .t)) table
 
 -- "The lowest number wins up to 8."
 unfoldable pub opening-verdict : List ℕ → ℕ → Verdict
@@ -43,10 +42,9 @@ opening-verdict s table = sheet-form s or-else line-and-length s table
 -- "a record's round outside 1 to R, a station outside 1 to n, or its last two bytes not zero": of the record with index i
 unfoldable pub misplaced : List ℕ → ℕ → Bool
 misplaced s i =
-    let h = header s in
-    outside 1 (rounds (h .t)) (round s i)
-    || outside 1 (h .n) (from s i)
-    || outside 1 (h .n) (to s i)
+    outside 1 (rounds (header s .t)) (round s i)
+    || outside 1 (header s .n) (from s i)
+    || outside 1 (header s .n) (to s i)
     || not (eqb (rest s i) 0)
 
 unfoldable pub record-form : List ℕ → ℕ → Verdict

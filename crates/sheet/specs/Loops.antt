@@ -11,6 +11,7 @@ use Rattle.line.specs.Header.{Sound}
 use Rattle.line.specs.declared.cause.Cause.the-variants.{Duplicate}
 use Rattle.line.specs.declared.cause.Verdict.{Verdict}
 use Rattle.line.specs.declared.cause.Verdict.the-variants.{Accepted}
+use Rattle.sheet.specs.declared.Header.{Header}
 use Rattle.sheet.specs.Layout.{header, records, most-records}
 use Rattle.sheet.specs.Chain.{Record, reached, Leaves, Again, Ends}
 use Rattle.sheet.specs.Judgement.{misplaced, record-form, unmarked-sender, records-verdict}
@@ -25,10 +26,14 @@ pub record Whole (s : List ℕ) : Type 0 where
   pub whole : length s ≡ 12 + 8 * records s
   pub most : records s ≤ most-records
 
+-- a header that causes 2 to 6 let through
+abbrev pub SoundHeader : Header → Type 0
+SoundHeader h = Sound (h .n) (h .t) (h .upper) (h .sender) (h .value) (h .marks)
+
 -- a sheet that causes 1 to 6 let through, with its n, R and marks
 pub record Lined (s : List ℕ) (n last marks : ℕ) : Type 0 where
   pub sheet-whole : Whole s
-  pub sound : Sound (header s .n) (header s .t) (header s .upper) (header s .sender) (header s .value) (header s .marks)
+  pub sound : SoundHeader (header s)
   pub n-is : n ≡ header s .n
   pub last-is : last ≡ rounds (header s .t)
   pub marks-are : marks ≡ header s .marks
@@ -36,7 +41,7 @@ pub record Lined (s : List ℕ) (n last marks : ℕ) : Type 0 where
 -- a record that cause 11 lets through, and the sheet's n
 pub record Placed (s : List ℕ) (i n : ℕ) : Type 0 where
   pub sheet-whole : Whole s
-  pub sound : Sound (header s .n) (header s .t) (header s .upper) (header s .sender) (header s .value) (header s .marks)
+  pub sound : SoundHeader (header s)
   pub n-is : n ≡ header s .n
   pub a-record : Record s i
   pub in-place : misplaced s i ≡ false
@@ -44,7 +49,7 @@ pub record Placed (s : List ℕ) (i n : ℕ) : Type 0 where
 -- a sheet whose chain of m records is judged, and the table to fill
 pub record Fillable (s : List ℕ) (m n : ℕ) (table : List ℕ) : Type 0 where
   pub sheet-whole : Whole s
-  pub sound : Sound (header s .n) (header s .t) (header s .upper) (header s .sender) (header s .value) (header s .marks)
+  pub sound : SoundHeader (header s)
   pub n-is : n ≡ header s .n
   pub chain : Ends s m
   pub judged : records-verdict s m ≡ Accepted

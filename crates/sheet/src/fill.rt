@@ -26,8 +26,8 @@ pub(crate) fn fill(sheet: &[u8], m: usize, n: u8, table: &mut [u8])
     let mut i = layout::first(sheet);
     let mut a: usize = 0;
     while a < m {
-        let p = layout::place(sheet, i, n);
-        table[p] = sheet[layout::start(i) + 3];
+        let p = layout::place_of(sheet, i, n);
+        table[p] = layout::field(sheet, i, 3);
         i = layout::next(sheet, i);
         a += 1;
     }

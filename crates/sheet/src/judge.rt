@@ -21,10 +21,10 @@ fn ill_formed(sheet: &[u8]) -> bool
     ensures { λ r. ⌜ r ≡ ill-formed (now (sheet .entry)) ⌝ }
 {
     let k = layout::records(sheet);
-    if sheet.len() != 12 + 8 * k {
+    if 4096 < k {
         return true;
     }
-    if 4096 < k {
+    if sheet.len() != 12 + 8 * k {
         return true;
     }
     sheet[5] != 0
@@ -61,17 +61,16 @@ fn misplaced(sheet: &[u8], i: usize, n: u8, last: u8, marks: u32) -> bool
     requires { ⌜ Lined (now sheet) n last marks × Record (now sheet) i ⌝ }
     ensures { λ r. ⌜ r ≡ misplaced (now (sheet .entry)) i ⌝ }
 {
-    let at = layout::start(i);
-    if header::outside(1, last, sheet[at]) {
+    if header::outside(1, last, layout::field(sheet, i, 0)) {
         return true;
     }
-    if header::outside(1, n, sheet[at + 1]) {
+    if header::outside(1, n, layout::field(sheet, i, 1)) {
         return true;
     }
-    if header::outside(1, n, sheet[at + 2]) {
+    if header::outside(1, n, layout::field(sheet, i, 2)) {
         return true;
     }
-    layout::two(sheet, at + 6) != 0
+    layout::rest(sheet, i) != 0
 }
 
 // Cause 12, of a record that cause 11 lets through.
@@ -79,7 +78,7 @@ fn unmarked(sheet: &[u8], i: usize, n: u8, marks: u32) -> bool
     requires { ⌜ Placed (now sheet) i n ⌝ }
     ensures { λ r. ⌜ r ≡ not (marked marks (from (now (sheet .entry)) i - 1)) ⌝ }
 {
-    let from = sheet[layout::start(i) + 1];
+    let from = layout::field(sheet, i, 1);
     !marks::is_marked(marks, from - 1)
 }
 
@@ -106,7 +105,7 @@ fn record(sheet: &[u8], i: usize, n: u8, last: u8, marks: u32, seen: &mut [u8; 3
     if unmarked(sheet, i, n, marks) {
         return Verdict::Refused(Cause::UnmarkedSender);
     }
-    look(seen, layout::place(sheet, i, n))
+    look(seen, layout::place_of(sheet, i, n))
 }
 
 // The m records of the chain, in its order: the first hit.

@@ -1,0 +1,57 @@
+-- `judge::ill_formed` meets its contract: one test after the other.
+use borrow.Author.Needs.{needs}
+use Prim.Native.Nat.{_+_, _*_, _≤_, _<_}
+use mathlib.Core.Path.{_≡_, refl, sym, _∙_}
+use native.Mathlib.Omega.{arith}
+use lib.ListN.{length}
+use borrow.Author.Tests.{lt-ltb, le-ltb, eq-eqb, ne-eqb}
+use Rattle.sheet.specs.Layout.{records, spare, byte}
+use Rattle.sheet.specs.Judgement.{ill-formed}
+use Rattle.sheet.proofs.judge.ill_formed.Statement.{statement}
+use Rattle.sheet.proofs.judge.ill_formed.Tie as tie
+
+records-requires : tie.Need-records-requires
+records-requires c κs = search needs
+
+returns : tie.Need-returns
+unfolding ill-formed
+returns c =
+    let k = records (c .before .before .before .args .sheet .now) in
+    let more : 4096 < k = rw (c .before .records .ensures) at (c .if1 .taken) in rw (lt-ltb 4096 k more)
+
+mul-if2 : tie.Need-mul-if2
+mul-if2 c = search needs
+
+add-if2 : tie.Need-add-if2
+add-if2 c = search needs
+
+returns-2 : tie.Need-returns-2
+unfolding ill-formed
+returns-2 c =
+    let s = c .before .before .before .before .args .sheet .now in
+    let most : records s ≤ 4096 = rw (c .before .before .records .ensures) at (c .before .if1 .left) in
+    let other : length s ≡ 12 + 8 * records s → ⊥ = rw (c .before .before .records .ensures) at (c .if2 .taken) in
+    rw (le-ltb 4096 (records s) most, ne-eqb (length s) (12 + 8 * records s) other)
+
+shared-slice-read-result : tie.Need-shared-slice-read-result
+shared-slice-read-result c = search needs
+
+returns-3 : tie.Need-returns-3
+unfolding ill-formed spare byte
+returns-3 c =
+    let s = c .before .before .before .before .before .args .sheet .now in
+    let most : records s ≤ 4096 = rw (c .before .before .before .records .ensures) at (c .before .before .if1 .left) in
+    let same : length s ≡ 12 + 8 * records s = rw (c .before .before .before .records .ensures) at (c .before .if2 .left) in
+    rw (le-ltb 4096 (records s) most, eq-eqb (length s) (12 + 8 * records s) same)
+
+pub ill-formed-spec : {M : Type 1} → statement M
+ill-formed-spec =
+    tie.close
+    (tie.spec
+    records-requires
+    returns
+    mul-if2
+    add-if2
+    returns-2
+    shared-slice-read-result
+    returns-3)
