@@ -1,1 +1,2 @@
 pub mod PigeonholeLaws
+pub mod ChainLaws
