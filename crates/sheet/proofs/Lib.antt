@@ -1,2 +1,3 @@
 pub mod PigeonholeLaws
 pub mod ChainLaws
+pub mod FormLaws
