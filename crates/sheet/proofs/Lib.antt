@@ -1,3 +1,4 @@
 pub mod PigeonholeLaws
 pub mod ChainLaws
 pub mod FormLaws
+pub mod TableLaws
