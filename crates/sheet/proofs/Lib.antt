@@ -2,3 +2,4 @@ pub mod PigeonholeLaws
 pub mod ChainLaws
 pub mod FormLaws
 pub mod TableLaws
+pub mod OutsideLaws
