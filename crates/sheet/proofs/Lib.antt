@@ -3,3 +3,4 @@ pub mod ChainLaws
 pub mod FormLaws
 pub mod TableLaws
 pub mod OutsideLaws
+pub mod Theorems
