@@ -1,4 +1,4 @@
--- Laws of the sheet's length: cause 1 lets through exactly the sheets of document 01's form, and k is then what the length says. Assumes nothing.
+-- Laws of the sheet's form: cause 1 lets through exactly the sheets of document 01's form. Assumes nothing.
 use Prim.Native.Nat.{ℕ, _+_, _*_}
 use mathlib.Core.Path.{_≡_}
 use mathlib.Core.Bool.{not, _||_}
@@ -19,6 +19,7 @@ module _ (s : List ℕ) where
   unfolding records
   records-are k e = omega arith
 
+  -- a well-formed sheet is accepted
   pub form-accepts : (k : ℕ) → WellFormed s k → (sheet-form s ≡ Accepted) × (records s ≡ k)
   unfolding sheet-form ill-formed
   form-accepts k w =
@@ -26,6 +27,7 @@ module _ (s : List ℕ) where
       let a = eq-eqb (length s) (12 + 8 * k) (w .length-is) in
       (refused-false _ (rw (r, a, le-ltb most-records k (w .most), eq-eqb (spare s) 0 (w .spare-zero))), r)
 
+  -- and an accepted one is well formed
   pub form-sound : sheet-form s ≡ Accepted → WellFormed s (records s)
   unfolding sheet-form ill-formed
   form-sound e =

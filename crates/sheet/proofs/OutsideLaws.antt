@@ -1,11 +1,13 @@
 -- Records outside the chain are ignored: two sheets with the same header and the same chained records are read alike. Assumes nothing.
 use Prim.Native.Nat.{ℕ, zero, suc, _+_, _<_}
 use mathlib.Core.Path.{_≡_, refl, sym, ap, _∙_}
-use mathlib.Core.Logic.{_⊎_, inl, inr, ⊎-elim}
+use mathlib.Core.Bool.{true}
+use mathlib.Core.Logic.{⊎-elim}
 use mathlib.Core.List.{List}
 use native.Mathlib.Nat.{add-assoc, add-zero}
 use native.Mathlib.Omega.{arith}
 use lib.Dec.{ltb}
+use borrow.Author.Tests.{ltb-true}
 use Rattle.line.specs.Cause.{refused-if}
 use Rattle.line.specs.declared.cause.Cause.the-variants.{Duplicate}
 use Rattle.line.proofs.CountLaws.{count-same}
@@ -14,18 +16,14 @@ use Rattle.sheet.specs.Chain.{Record, reached, after, Fate, leaves, agai
 use Rattle.sheet.specs.Judgement.{ill-formed, sheet-form, line-and-length, opening-verdict, misplaced, record-form, unmarked-sender, same-place, taken-before, duplicate, record-verdict, records-verdict, chain-verdict, sheet-verdict}
 use Rattle.sheet.specs.Reading.{place-of, filled, table-of}
 use Rattle.sheet.specs.Theorems.{SameChain}
-use Rattle.sheet.proofs.ChainLaws.{Over, kind, after-record, after-over, one-chain-verdict, one-table}
+use Rattle.sheet.proofs.ChainLaws.{Over, Chained, kind, after-record, after-over, one-chain}
 
 -- the record with index i is the same in two sheets
 abbrev pub SameRecord : List ℕ → List ℕ → ℕ → Type 0
 SameRecord s s′ i = (b : ℕ) → b < 8 → byte s (start i + b) ≡ byte s′ (start i + b)
 
--- records at the first m positions of the chain
-abbrev pub Chained : List ℕ → ℕ → Type 0
-Chained s m = (a : ℕ) → a < m → Record s (reached s a)
-
 module _ (s s′ : List ℕ) where
-  -- two bytes at b from the start of a record
+  -- the two bytes at b of the record
   two-same : (i b : ℕ) → SameRecord s s′ i → b + 1 < 8 → two s (start i + b) ≡ two s′ (start i + b)
   unfolding two
   two-same i b r h = rw (r b (omega arith), add-assoc (start i) b 1, r (b + 1) h)
@@ -56,6 +54,7 @@ module _ (s s′ : List ℕ) where
   unfolding rest
   rest-same i r = two-same i 6 r (omega arith)
 
+  -- whether two records have one place
   same-place-same : (i j : ℕ) → SameRecord s s′ i → SameRecord s s′ j → same-place s i j ≡ same-place s′ i j
   unfolding same-place
   same-place-same i j p q =
@@ -64,29 +63,37 @@ module _ (s s′ : List ℕ) where
 module _ (s s′ : List ℕ) (h : SameChain s s′) where
   -- ---- the header
 
+  -- a byte of the header
+  byte-alike : (b : ℕ) → ltb b 12 ≡ true → byte s b ≡ byte s′ b
+  byte-alike b e = h .header-same b (ltb-true b 12 e)
+
+  -- the header's numbers
   pub header-alike : header s ≡ header s′
   unfolding header two four
-  header-alike =
-      let at : (b : ℕ) → b < 12 → byte s b ≡ byte s′ b = h .header-same in
-      rw (at 0 (omega arith), at 1 (omega arith), at 2 (omega arith), at 3 (omega arith), at 4 (omega arith), at 8 (omega arith), at 9 (omega arith), at 10 (omega arith), at 11 (omega arith))
+  header-alike = simp byte-alike
 
+  -- k
   records-alike : records s ≡ records s′
   unfolding records
   records-alike = rw (h .length-same)
 
+  -- the first index
   first-alike : first s ≡ first s′
   unfolding first two
-  first-alike = rw (h .header-same 6 (omega arith), h .header-same 7 (omega arith))
+  first-alike = simp byte-alike
 
+  -- causes 1 to 8
   opening-alike : (l : ℕ) → opening-verdict s l ≡ opening-verdict s′ l
   unfolding opening-verdict sheet-form ill-formed line-and-length spare
-  opening-alike l = rw (h .length-same, records-alike, h .header-same 5 (omega arith), header-alike)
+  opening-alike l = rw (h .length-same, records-alike, byte-alike 5 refl, header-alike)
 
   -- ---- the chain
 
+  -- where no record stands in the one, none stands in the other
   over-alike : (i : ℕ) → Over s i → Over s′ i
   over-alike i o = rw records-alike at o
 
+  -- where a record stands in the one, a record stands in the other
   record-alike : (i : ℕ) → Record s i → Record s′ i
   record-alike i r = record { low = r .low; high = rw (← records-alike) (r .high) }
 
@@ -106,15 +113,18 @@ module _ (s s′ : List ℕ) (h : SameChain s s′) where
   reached-alike zero = first-alike
   reached-alike (suc m) = after-alike m ∙ ap (after s′) (reached-alike m)
 
+  -- records at the same positions
   chained-alike : (m : ℕ) → Record s (reached s m) → Record s′ (reached s′ m)
   chained-alike m r = rw (reached-alike m) at (record-alike (reached s m) r)
 
   -- ---- the records and the table
 
   module _ (m : ℕ) (r : Record s (reached s m)) where
+    -- the record at position m of the chain: its eight bytes
     same-record : SameRecord s s′ (reached s m)
     same-record b l = h .chain-same m b r l
 
+    -- cause 11 of it
     form-alike : record-form s (reached s m) ≡ record-form s′ (reached s′ m)
     unfolding record-form misplaced
     form-alike =
@@ -122,10 +132,12 @@ module _ (s s′ : List ℕ) (h : SameChain s s′) where
         let c = same-record in
         rw (← reached-alike m, header-alike, round-same s s′ i c, from-same s s′ i c, to-same s s′ i c, rest-same s s′ i c)
 
+    -- cause 12 of it
     unmarked-alike : unmarked-sender s (reached s m) ≡ unmarked-sender s′ (reached s′ m)
     unfolding unmarked-sender
     unmarked-alike = rw (← reached-alike m, header-alike, from-same s s′ (reached s m) same-record)
 
+    -- its place
     place-alike : place-of s (reached s m) ≡ place-of s′ (reached s′ m)
     unfolding place-of
     place-alike =
@@ -133,9 +145,11 @@ module _ (s s′ : List ℕ) (h : SameChain s s′) where
         let c = same-record in
         rw (← reached-alike m, header-alike, round-same s s′ i c, from-same s s′ i c, to-same s s′ i c)
 
+    -- its ballot
     ballot-alike : ballot s (reached s m) ≡ ballot s′ (reached s′ m)
     ballot-alike = rw (← reached-alike m) (ballot-same s s′ (reached s m) same-record)
 
+  -- cause 13, of the record at position m
   duplicate-alike : (m : ℕ) → Chained s (suc m) → duplicate s m ≡ duplicate s′ m
   unfolding duplicate taken-before
   duplicate-alike m c =
@@ -144,6 +158,7 @@ module _ (s s′ : List ℕ) (h : SameChain s s′) where
       (λ a l. rw (← reached-alike a, ← reached-alike m)
       (same-place-same s s′ (reached s a) (reached s m) (same-record a (c a (omega arith))) (same-record m (c m (omega arith))))))
 
+  -- the verdict of the first m records
   records-verdict-alike : (m : ℕ) → Chained s m → records-verdict s m ≡ records-verdict s′ m
   unfolding records-verdict record-verdict
   records-verdict-alike zero c = refl
@@ -151,6 +166,7 @@ module _ (s s′ : List ℕ) (h : SameChain s s′) where
       let r = c m (omega arith) in
       rw (records-verdict-alike m (λ a l. c a (omega arith)), form-alike m r, unmarked-alike m r, duplicate-alike m c)
 
+  -- the table after the first m records
   filled-alike : (m : ℕ) → Chained s m → filled s m ≡ filled s′ m
   unfolding filled
   filled-alike zero c = rw header-alike
@@ -182,14 +198,16 @@ module _ (s s′ : List ℕ) (h : SameChain s s′) where
     (records-verdict-alike m (e .chained), filled-alike m (e .chained)),
   )
 
+  -- the whole verdict
   verdict-alike : (l : ℕ) (f : Fate s) (f′ : Fate s′) → sheet-verdict s l f ≡ sheet-verdict s′ l f′
   unfolding sheet-verdict
   verdict-alike l f f′ =
       let (g, (v, t)) = chain-alike f in
-      rw (opening-alike l, v, one-chain-verdict s′ g f′)
+      rw (opening-alike l, v, one-chain s′ g f′ .0)
 
+  -- the two sheets are read alike, whatever fates they are given
   pub read-alike : (f : Fate s) (f′ : Fate s′)
       → ((l : ℕ) → sheet-verdict s l f ≡ sheet-verdict s′ l f′) × ((header s ≡ header s′) × (table-of s f ≡ table-of s′ f′))
   read-alike f f′ =
       let (g, (v, t)) = chain-alike f in
-      (λ l. verdict-alike l f f′, (header-alike, t ∙ one-table s′ g f′))
+      (λ l. verdict-alike l f f′, (header-alike, t ∙ one-chain s′ g f′ .1))

@@ -1,6 +1,6 @@
 -- Laws of the table of an accepted sheet: each chained ballot in its place, silence everywhere else. Assumes nothing.
 use Prim.Native.Nat.{ℕ, zero, suc, _+_, _-_, _/_, _%_, _≤_, _<_}
-use mathlib.Core.Path.{_≡_, refl, sym, ap, _∙_}
+use mathlib.Core.Path.{_≡_, refl, sym}
 use mathlib.Core.Bool.{Bool, true, false, not, _||_}
 use mathlib.Core.Logic.{_≢_, ⊎-elim}
 use mathlib.Core.List.{List}
@@ -38,6 +38,7 @@ pub record InPlace (s : List ℕ) (i : ℕ) : Type 0 where
 module _ (s : List ℕ) where
   -- ---- one record
 
+  -- what cause 11 lets through is in its ranges
   pub in-place : (i : ℕ) → misplaced s i ≡ false → InPlace s i
   unfolding misplaced
   in-place i e =
@@ -63,44 +64,41 @@ module _ (s : List ℕ) where
         rest-zero = eqb-true (rest s i) 0 (not-false blank d);
       }
 
-  -- its place is in the table
-  pub place-inside : (i : ℕ) → InPlace s i → place-of s i < table-length (header s .n) (header s .t)
-  unfolding place-of
-  place-inside i p =
-      place-below (header s .n) (round s i) (from s i - 1) (to s i - 1) (p .round-low) (omega (arith, p)) (omega (arith, p)) (rounds (header s .t)) (p .round-high)
+  module _ (i : ℕ) (p : InPlace s i) where
+    from-below : from s i - 1 < header s .n
+    from-below = omega arith
 
-  -- and tells its sender
-  pub place-sender : (i r j k : ℕ) → InPlace s i → 1 ≤ r → j < header s .n → k < header s .n
-      → place-of s i ≡ place (header s .n) r j k → from s i - 1 ≡ j
-  unfolding place-of
-  place-sender i r j k p hr hj hk e =
-      let n = header s .n in
-      sym (place-from n (round s i) (from s i - 1) (to s i - 1) (p .round-low) (omega (arith, p)) (omega (arith, p)))
-      ∙ ap (λ (x : ℕ). x / n % n) e
-      ∙ place-from n r j k hr hj hk
+    to-below : to s i - 1 < header s .n
+    to-below = omega arith
+
+    -- its place is in the table
+    pub place-inside : place-of s i < table-length (header s .n) (header s .t)
+    unfolding place-of
+    place-inside =
+        let h = header s in
+        place-below (h .n) (round s i) (from s i - 1) (to s i - 1) (p .round-low) from-below to-below (rounds (h .t)) (p .round-high)
+
+    -- and tells its round, from and to
+    round-told : place-of s i / header s .n / header s .n + 1 ≡ round s i
+    unfolding place-of
+    round-told = place-round (header s .n) (round s i) (from s i - 1) (to s i - 1) (p .round-low) from-below to-below
+
+    from-told : place-of s i / header s .n % header s .n ≡ from s i - 1
+    unfolding place-of
+    from-told = place-from (header s .n) (round s i) (from s i - 1) (to s i - 1) (p .round-low) from-below to-below
+
+    to-told : place-of s i % header s .n ≡ to s i - 1
+    unfolding place-of
+    to-told = place-to (header s .n) (round s i) (from s i - 1) (to s i - 1) (p .round-low) from-below to-below
 
   -- two records with one place have the same round, from and to
   pub place-tells : (i j : ℕ) → InPlace s i → InPlace s j → place-of s i ≡ place-of s j → same-place s i j ≡ true
-  unfolding place-of same-place
+  unfolding same-place
   place-tells i j p q e =
-      let n = header s .n in
-      let pf : from s i - 1 < n = omega (arith, p) in
-      let pt : to s i - 1 < n = omega (arith, p) in
-      let qf : from s j - 1 < n = omega (arith, q) in
-      let qt : to s j - 1 < n = omega (arith, q) in
-      let r : round s i ≡ round s j =
-      sym (place-round n (round s i) (from s i - 1) (to s i - 1) (p .round-low) pf pt)
-      ∙ ap (λ (x : ℕ). x / n / n + 1) e
-      ∙ place-round n (round s j) (from s j - 1) (to s j - 1) (q .round-low) qf qt in
-      let f : from s i - 1 ≡ from s j - 1 =
-      sym (place-from n (round s i) (from s i - 1) (to s i - 1) (p .round-low) pf pt)
-      ∙ ap (λ (x : ℕ). x / n % n) e
-      ∙ place-from n (round s j) (from s j - 1) (to s j - 1) (q .round-low) qf qt in
-      let t : to s i - 1 ≡ to s j - 1 =
-      sym (place-to n (round s i) (from s i - 1) (to s i - 1) (p .round-low) pf pt)
-      ∙ ap (λ (x : ℕ). x % n) e
-      ∙ place-to n (round s j) (from s j - 1) (to s j - 1) (q .round-low) qf qt in
-      rw (eq-eqb (round s i) (round s j) r, eq-eqb (from s i) (from s j) (omega (arith, p, q)), eq-eqb (to s i) (to s j) (omega (arith, p, q)))
+      let r : round s i ≡ round s j = cc (round-told i p, round-told j q) in
+      let f : from s i - 1 ≡ from s j - 1 = cc (from-told i p, from-told j q) in
+      let t : to s i - 1 ≡ to s j - 1 = cc (to-told i p, to-told j q) in
+      rw (eq-eqb (round s i) (round s j) r, eq-eqb (from s i) (from s j) (omega arith), eq-eqb (to s i) (to s j) (omega arith))
 
   -- ---- the records of the chain
 
@@ -112,7 +110,7 @@ module _ (s : List ℕ) where
       let (w, x) = both-accepted (records-verdict s m) (record-verdict s m) v in
       ⊎-elim (λ (e : a ≡ m). rw e x) (λ (l : a < m). judged m a w l) (eq-or-lt-of-le (le-of-suc-le-suc h))
 
-  -- an accepted record's numbers are in their ranges, its sender is marked, and no earlier record has its place
+  -- an accepted record passes 11, 12 and 13
   pub all-three : (a : ℕ) → record-verdict s a ≡ Accepted
       → (record-form s (reached s a) ≡ Accepted) × (unmarked-sender s (reached s a) ≡ Accepted) × (duplicate s a ≡ Accepted)
   unfolding record-verdict
@@ -122,22 +120,26 @@ module _ (s : List ℕ) where
       let (y, z) = both-accepted (unmarked-sender s i) (duplicate s a) w in
       (x, y, z)
 
+  -- so its numbers are in their ranges
   pub judged-place : (a : ℕ) → record-verdict s a ≡ Accepted → InPlace s (reached s a)
   unfolding record-form
   judged-place a v = in-place (reached s a) (accepted-false _ _ (all-three a v .0))
 
+  -- its sender is marked
   pub judged-marked : (a : ℕ) → record-verdict s a ≡ Accepted → marked (header s .marks) (from s (reached s a) - 1) ≡ true
   unfolding unmarked-sender
   judged-marked a v = not-false _ (accepted-false _ _ (all-three a v .1))
 
+  -- and no earlier record has its round, from and to
   pub judged-new : (a b : ℕ) → a < b → record-verdict s b ≡ Accepted → same-place s (reached s a) (reached s b) ≡ false
   unfolding duplicate taken-before
   judged-new a b h v =
       let taken : ℕ → Bool = λ k. same-place s (reached s k) (reached s b) in
       none-passes b taken (omega (arith, ltb-false 0 (count b taken) (accepted-false _ _ (all-three b v .2)))) a h
 
-  -- so each has a place of its own
-  pub places-apart : (m a b : ℕ) → records-verdict s m ≡ Accepted → a < b → b < m → place-of s (reached s a) ≢ place-of s (reached s b)
+  -- so accepted records have places of their own
+  pub places-apart : (m a b : ℕ) → records-verdict s m ≡ Accepted → a < b → b < m
+      → place-of s (reached s a) ≢ place-of s (reached s b)
   places-apart m a b v h l e =
       let x = judged m a v (omega arith) in
       let y = judged m b v l in
@@ -148,12 +150,15 @@ module _ (s : List ℕ) where
 
   -- ---- the table
 
+  -- as long as a run table
   pub filled-length : (m : ℕ) → length (filled s m) ≡ table-length (header s .n) (header s .t)
   unfolding filled
   filled-length zero = length-replicate (table-length (header s .n) (header s .t)) 255
   filled-length (suc m) = simp length-set (filled-length m)
 
-  pub filled-at : (m a : ℕ) → records-verdict s m ≡ Accepted → a < m → getD (filled s m) (place-of s (reached s a)) 0 ≡ ballot s (reached s a)
+  -- each of the first m ballots in its place
+  pub filled-at : (m a : ℕ) → records-verdict s m ≡ Accepted → a < m
+      → getD (filled s m) (place-of s (reached s a)) 0 ≡ ballot s (reached s a)
   unfolding filled records-verdict
   filled-at zero a v h = absurd (omega arith)
   filled-at (suc m) a v h =
@@ -167,6 +172,7 @@ module _ (s : List ℕ) where
       rw getD-set-other (filled-at m a w l))
       (eq-or-lt-of-le (le-of-suc-le-suc h))
 
+  -- silence in every other place
   pub filled-else : (m p : ℕ) → p < table-length (header s .n) (header s .t)
       → ((a : ℕ) → a < m → place-of s (reached s a) ≢ p) → getD (filled s m) p 0 ≡ 255
   unfolding filled
@@ -177,23 +183,28 @@ module _ (s : List ℕ) where
 
   -- ---- an accepted sheet
 
-  -- its chain ends, its records are accepted and its table is filled
-  pub accepted-ends : (l : ℕ) (f : Fate s) → sheet-verdict s l f ≡ Accepted
-      → (m : ℕ) × (Ends s m × ((records-verdict s m ≡ Accepted) × (table-of s f ≡ filled s m)))
+  -- a chain that ends, with m accepted records and the table that they fill
+  abbrev pub Read : Fate s → Type 0
+  Read f = (m : ℕ) × (Ends s m × ((records-verdict s m ≡ Accepted) × (table-of s f ≡ filled s m)))
+
+  -- such is the chain of every accepted sheet
+  pub accepted-ends : (l : ℕ) (f : Fate s) → sheet-verdict s l f ≡ Accepted → Read f
   unfolding sheet-verdict
   accepted-ends l f v = go f (both-accepted (opening-verdict s l) (chain-verdict s f) v .1)
     where
-      go : (f : Fate s) → chain-verdict s f ≡ Accepted → (m : ℕ) × (Ends s m × ((records-verdict s m ≡ Accepted) × (table-of s f ≡ filled s m)))
+      go : (g : Fate s) → chain-verdict s g ≡ Accepted → Read g
       go (leaves x) w = never w
       go (again x) w = never w
       go (ends m e) w = (m, (e, (w, refl)))
 
+  -- the ballot of each chained record stands in its place
   pub ballots-stand : (l : ℕ) (f : Fate s) → sheet-verdict s l f ≡ Accepted
       → (a : ℕ) → Record s (reached s a) → getD (table-of s f) (place-of s (reached s a)) 0 ≡ ballot s (reached s a)
   ballots-stand l f v a r =
       let (m, (e, (w, t))) = accepted-ends l f v in
       rw t (filled-at m a w (before-end s m a e r))
 
+  -- silence stands in every other
   pub else-silence : (l : ℕ) (f : Fate s) → sheet-verdict s l f ≡ Accepted
       → (p : ℕ) → p < table-length (header s .n) (header s .t)
       → ((a : ℕ) → Record s (reached s a) → place-of s (reached s a) ≢ p) → getD (table-of s f) p 0 ≡ 255
@@ -201,6 +212,7 @@ module _ (s : List ℕ) where
       let (m, (e, (w, t))) = accepted-ends l f v in
       rw t (filled-else m p h (λ a q. none a (e .chained a q)))
 
+  -- and so at every sender that is not marked, since a chained record's is
   pub unmarked-silent : (l : ℕ) (f : Fate s) → sheet-verdict s l f ≡ Accepted
       → (r i j : ℕ) → 1 ≤ r → r ≤ rounds (header s .t) → i < header s .n → j < header s .n
       → marked (header s .marks) i ≡ false → getD (table-of s f) (place (header s .n) r i j) 0 ≡ 255
@@ -209,7 +221,7 @@ module _ (s : List ℕ) where
       else-silence l f v (place (header s .n) r i j) (place-below (header s .n) r i j hr hi hj (rounds (header s .t)) hR)
       (λ a q same.
       let x = judged m a w (before-end s m a e q) in
-      let b : from s (reached s a) - 1 ≡ i = place-sender (reached s a) r i j (judged-place a x) hr hi hj same in
+      let b : from s (reached s a) - 1 ≡ i = cc (from-told (reached s a) (judged-place a x), place-from (header s .n) r i j hr hi hj) in
       let k : marked (header s .marks) (from s (reached s a) - 1) ≡ true = judged-marked a x in
       let z : _≡_ {A = ℕ} 0 1 = cc in
       omega arith)
