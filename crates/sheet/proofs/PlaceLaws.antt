@@ -1,23 +1,31 @@
 -- Laws of a record's place in the table, where cause 11 lets the record through. Assumes nothing.
-use Prim.Native.Nat.{ℕ, _-_, _≤_, _<_}
-use mathlib.Core.Path.{_≡_}
-use mathlib.Core.Bool.{Bool, false, not, _||_}
+use Prim.Native.Nat.{ℕ, _+_, _-_, _/_, _%_, _≤_, _<_}
+use mathlib.Core.Path.{_≡_, refl}
+use mathlib.Core.Bool.{Bool, true, false, not, _&&_, _||_}
 use mathlib.Core.List.{List}
 use native.Mathlib.Nat.{lt-of-lt-of-le}
 use native.Mathlib.Omega.{arith}
-use borrow.Author.Tests.{eqb-true, not-false}
 use lib.Dec.{eqb}
-use Rattle.line.specs.Header.{outside}
+use borrow.Author.Tests.{eqb-true, eq-eqb, not-false}
 use Rattle.line.specs.Line.{rounds, table-length, largest-table}
-use Rattle.line.proofs.LineLaws.{place-below, table-bound}
+use Rattle.line.specs.Header.{outside}
+use Rattle.line.proofs.LineLaws.{place-below, place-round, place-from, place-to, table-bound}
 use Rattle.line.proofs.HeaderLaws.{inside, neither}
 use Rattle.sheet.specs.Layout.{header, round, from, to, rest}
-use Rattle.sheet.specs.Judgement.{misplaced}
+use Rattle.sheet.specs.Judgement.{misplaced, same-place}
 use Rattle.sheet.specs.Reading.{place-of}
 use Rattle.sheet.specs.Loops.{SoundHeader}
 
--- what cause 11 lets through, in plain facts
-pub record WellPlaced (s : List ℕ) (i : ℕ) : Type 0 where
+-- a range's test, of equal numbers
+pub same-range : {high high′ x x′ : ℕ} {r : Bool} → r ≡ outside 1 high x → high ≡ high′ → x ≡ x′ → outside 1 high′ x′ ≡ r
+same-range e h k = rw (e, h, k)
+
+pub both-true : (a b : Bool) → a && b ≡ true → (a ≡ true) × (b ≡ true)
+both-true true b e = (refl, e)
+both-true false b e = (e, cc)
+
+-- a record's numbers, where cause 11 lets it through
+pub record InPlace (s : List ℕ) (i : ℕ) : Type 0 where
   pub round-low : 1 ≤ round s i
   pub round-high : round s i ≤ rounds (header s .t)
   pub from-low : 1 ≤ from s i
@@ -26,43 +34,80 @@ pub record WellPlaced (s : List ℕ) (i : ℕ) : Type 0 where
   pub to-high : to s i ≤ header s .n
   pub rest-zero : rest s i ≡ 0
 
-pub well-placed : (s : List ℕ) (i : ℕ) → misplaced s i ≡ false → WellPlaced s i
-unfolding misplaced
-well-placed s i e =
-    let round-out = outside 1 (rounds (header s .t)) (round s i) in
-    let from-out = outside 1 (header s .n) (from s i) in
-    let to-out = outside 1 (header s .n) (to s i) in
-    let rest-out = not (eqb (rest s i) 0) in
-    let (e₂, d) = neither (round-out || from-out || to-out) rest-out e in
-    let (e₃, c) = neither (round-out || from-out) to-out e₂ in
-    let (a, b) = neither round-out from-out e₃ in
-    let r = inside 1 _ (round s i) a in
-    let f = inside 1 _ (from s i) b in
-    let t = inside 1 _ (to s i) c in
-    record {
-      round-low = r .0;
-      round-high = r .1;
-      from-low = f .0;
-      from-high = f .1;
-      to-low = t .0;
-      to-high = t .1;
-      rest-zero = eqb-true (rest s i) 0 (not-false _ d);
-    }
+module _ (s : List ℕ) where
+  -- ---- one record
 
--- a range's test, of equal numbers
-pub same-range : {high high′ x x′ : ℕ} {r : Bool} → r ≡ outside 1 high x → high ≡ high′ → x ≡ x′ → outside 1 high′ x′ ≡ r
-same-range e h k = rw (e, h, k)
+  -- what cause 11 lets through is in its ranges
+  pub in-place : (i : ℕ) → misplaced s i ≡ false → InPlace s i
+  unfolding misplaced
+  in-place i e =
+      let last = rounds (header s .t) in
+      let n = header s .n in
+      let o₁ = outside 1 last (round s i) in
+      let o₂ = outside 1 n (from s i) in
+      let o₃ = outside 1 n (to s i) in
+      let blank = eqb (rest s i) 0 in
+      let (e₂, d) = neither (o₁ || o₂ || o₃) (not blank) e in
+      let (e₃, c) = neither (o₁ || o₂) o₃ e₂ in
+      let (a, b) = neither o₁ o₂ e₃ in
+      let r = inside 1 last (round s i) a in
+      let f = inside 1 n (from s i) b in
+      let t = inside 1 n (to s i) c in
+      record {
+        round-low = r .0;
+        round-high = r .1;
+        from-low = f .0;
+        from-high = f .1;
+        to-low = t .0;
+        to-high = t .1;
+        rest-zero = eqb-true (rest s i) 0 (not-false blank d);
+      }
 
-module _ (s : List ℕ) (i : ℕ) (p : WellPlaced s i) where
-  -- the place is in the sheet's table
-  pub place-in-table : place-of s i < table-length (header s .n) (header s .t)
-  unfolding place-of
-  place-in-table =
-      let below-from : from s i - 1 < header s .n = omega (arith, p .from-low, p .from-high) in
-      let below-to : to s i - 1 < header s .n = omega (arith, p .to-low, p .to-high) in
-      place-below (header s .n) (round s i) (from s i - 1) (to s i - 1) (p .round-low) below-from below-to (rounds (header s .t)) (p .round-high)
+  module _ (i : ℕ) (p : InPlace s i) where
+    from-below : from s i - 1 < header s .n
+    from-below = omega arith
 
-  -- and so in the largest
-  pub place-in-largest : SoundHeader (header s) → place-of s i < largest-table
-  place-in-largest sound =
-      lt-of-lt-of-le place-in-table (table-bound (header s .n) (header s .t) (header s .upper) (sound .most) (sound .fits))
+    to-below : to s i - 1 < header s .n
+    to-below = omega arith
+
+    -- its place is in the table
+    pub place-inside : place-of s i < table-length (header s .n) (header s .t)
+    unfolding place-of
+    place-inside =
+        let h = header s in
+        place-below (h .n) (round s i) (from s i - 1) (to s i - 1) (p .round-low) from-below to-below (rounds (h .t)) (p .round-high)
+
+    -- and so in the largest
+    pub place-in-largest : SoundHeader (header s) → place-of s i < largest-table
+    place-in-largest sound =
+        lt-of-lt-of-le place-inside (table-bound (header s .n) (header s .t) (header s .upper) (sound .most) (sound .fits))
+
+    -- and tells its round, from and to
+    pub round-told : place-of s i / header s .n / header s .n + 1 ≡ round s i
+    unfolding place-of
+    round-told = place-round (header s .n) (round s i) (from s i - 1) (to s i - 1) (p .round-low) from-below to-below
+
+    pub from-told : place-of s i / header s .n % header s .n ≡ from s i - 1
+    unfolding place-of
+    from-told = place-from (header s .n) (round s i) (from s i - 1) (to s i - 1) (p .round-low) from-below to-below
+
+    pub to-told : place-of s i % header s .n ≡ to s i - 1
+    unfolding place-of
+    to-told = place-to (header s .n) (round s i) (from s i - 1) (to s i - 1) (p .round-low) from-below to-below
+
+  -- two records with one place have the same round, from and to
+  pub place-tells : (i j : ℕ) → InPlace s i → InPlace s j → place-of s i ≡ place-of s j → same-place s i j ≡ true
+  unfolding same-place
+  place-tells i j p q e =
+      let r : round s i ≡ round s j = cc (round-told i p, round-told j q) in
+      let f : from s i - 1 ≡ from s j - 1 = cc (from-told i p, from-told j q) in
+      let t : to s i - 1 ≡ to s j - 1 = cc (to-told i p, to-told j q) in
+      rw (eq-eqb (round s i) (round s j) r, eq-eqb (from s i) (from s j) (omega arith), eq-eqb (to s i) (to s j) (omega arith))
+
+  -- and two with the same round, from and to have one place
+  pub same-tells : (i j : ℕ) → same-place s i j ≡ true → place-of s i ≡ place-of s j
+  unfolding same-place place-of
+  same-tells i j e =
+      let (e₂, t) = both-true (eqb (round s i) (round s j) && eqb (from s i) (from s j)) (eqb (to s i) (to s j)) e in
+      let (r, f) = both-true (eqb (round s i) (round s j)) (eqb (from s i) (from s j)) e₂ in
+      rw (eqb-true (round s i) (round s j) r, eqb-true (from s i) (from s j) f, eqb-true (to s i) (to s j) t)

@@ -65,9 +65,13 @@ Told s (walked.Ends m) = Ends s m
 
 -- ---- the places seen
 
--- a byte for each place of the largest table: 1 at the places of the first m records of the chain
+-- a byte for each place of the largest table, 0 where no record was seen
+unfoldable pub unseen : List ℕ
+unseen = replicate largest-table 0
+
+-- 1 at the places of the first m records of the chain
 unfoldable pub seen : List ℕ → ℕ → List ℕ
-seen s zero = replicate largest-table 0
+seen s zero = unseen
 seen s (suc m) = set (seen s m) (place-of s (reached s m)) 1
 
 -- refused if the place p was seen

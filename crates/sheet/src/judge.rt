@@ -8,7 +8,7 @@ ghost use Rattle.sheet.specs.Layout.{from};
 ghost use Rattle.sheet.specs.Chain.{Record, Ends};
 ghost use Rattle.sheet.specs.Judgement.{ill-formed, line-and-length, opening-verdict, misplaced, records-verdict};
 ghost use Rattle.sheet.specs.Reading.{place-of};
-ghost use Rattle.sheet.specs.Loops.{Lined, Placed, looked, marked-seen, record-by};
+ghost use Rattle.sheet.specs.Loops.{Lined, Placed, unseen, looked, marked-seen, record-by};
 use crate::layout;
 use line::Line;
 use line::cause::Cause;
@@ -109,15 +109,14 @@ fn record(sheet: &[u8], i: usize, n: u8, last: u8, marks: u32, seen: &mut [u8; 3
 }
 
 // The m records of the chain, in its order: the first hit.
-pub(crate) fn records(sheet: &[u8], m: usize, n: u8, last: u8, marks: u32) -> Verdict
-    requires { ⌜ Lined (now sheet) n last marks × Ends (now sheet) m ⌝ }
+fn in_order(sheet: &[u8], m: usize, n: u8, last: u8, marks: u32, seen: &mut [u8; 36864]) -> Verdict
+    requires { ⌜ Lined (now sheet) n last marks × Ends (now sheet) m × (now seen ≡ unseen) ⌝ }
     ensures { λ r. ⌜ r ≡ records-verdict (now (sheet .entry)) m ⌝ }
 {
-    let mut seen = [0u8; 36864];
     let mut i = layout::first(sheet);
     let mut a: usize = 0;
     while a < m {
-        let verdict = record(sheet, i, n, last, marks, &mut seen);
+        let verdict = record(sheet, i, n, last, marks, seen);
         if let Verdict::Refused(c) = verdict {
             return Verdict::Refused(c);
         }
@@ -125,4 +124,13 @@ pub(crate) fn records(sheet: &[u8], m: usize, n: u8, last: u8, marks: u32) -> Ve
         a += 1;
     }
     Verdict::Accepted
+}
+
+// The m records of the chain, with no place seen before.
+pub(crate) fn records(sheet: &[u8], m: usize, n: u8, last: u8, marks: u32) -> Verdict
+    requires { ⌜ Lined (now sheet) n last marks × Ends (now sheet) m ⌝ }
+    ensures { λ r. ⌜ r ≡ records-verdict (now (sheet .entry)) m ⌝ }
+{
+    let mut seen = [0u8; 36864];
+    in_order(sheet, m, n, last, marks, &mut seen)
 }

@@ -1,8 +1,7 @@
 -- `fill::silence` meets its contract. The loop's invariant: the first p bytes are 255.
 use borrow.Author.Needs.{needs}
-use Prim.Native.Nat.{ℕ, _≤_, _-_}
-use mathlib.Core.Path.{_≡_, refl, _∙_, ap}
-use mathlib.Core.List.{List}
+use Prim.Native.Nat.{_≤_, _-_}
+use mathlib.Core.Path.{_≡_, refl, _∙_}
 use native.Mathlib.Omega.{arith}
 use lib.ListN.{length}
 use Rattle.line.specs.Writing.{over}
@@ -28,12 +27,12 @@ add-p c = search needs
 loop-less : tie.Need-loop-less Inv-loop μ-loop
 loop-less c =
     let same : length (c .before .loop .table) ≡ length (c .before .before .args .table .now) =
-      rw (c .before .loop .inv .1) (over-length _ _ _ _) in omega arith
+    rw (c .before .loop .inv .1) (over-length _ _ _ _) in omega arith
 
 loop-again : tie.Need-loop-again Inv-loop μ-loop
 loop-again c =
     let same : length (c .before .loop .table) ≡ length (c .before .before .args .table .now) =
-      rw (c .before .loop .inv .1) (over-length _ _ _ _) in
+    rw (c .before .loop .inv .1) (over-length _ _ _ _) in
     (omega arith, front-turn _ (λ k. 255) _ _ _ (c .before .loop .inv .1) refl)
 
 same-length : tie.Need-same-length Inv-loop μ-loop

@@ -1,7 +1,7 @@
 -- `judge::misplaced` meets its contract: one test after the other.
 use borrow.Author.Needs.{needs}
 use Rattle.sheet.specs.Judgement.{misplaced}
-use mathlib.Core.Path.{_≡_, _∙_}
+use mathlib.Core.Path.{_∙_}
 use Rattle.sheet.proofs.LayoutLaws.{round-at, from-at, to-at}
 use Rattle.sheet.proofs.PlaceLaws.{same-range}
 use Rattle.sheet.proofs.judge.misplaced.Statement.{statement}

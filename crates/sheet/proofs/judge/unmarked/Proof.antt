@@ -1,12 +1,10 @@
 -- `judge::unmarked` meets its contract.
 use borrow.Author.Needs.{needs}
-use Prim.Native.Nat.{_-_}
-use mathlib.Core.Path.{_≡_, _∙_, ap}
-use mathlib.Core.Bool.{not}
+use mathlib.Core.Path.{_≡_, _∙_}
 use native.Mathlib.Omega.{arith}
 use Rattle.sheet.specs.Layout.{from}
 use Rattle.sheet.proofs.LayoutLaws.{from-at}
-use Rattle.sheet.proofs.PlaceLaws.{well-placed}
+use Rattle.sheet.proofs.PlaceLaws.{in-place}
 use Rattle.sheet.proofs.judge.unmarked.Statement.{statement}
 use Rattle.sheet.proofs.judge.unmarked.Tie as tie
 
@@ -18,7 +16,7 @@ sub-is-marked c =
     let s = c .before .before .args .sheet .now in
     let i = c .before .before .args .i in
     let f : c .field .result ≡ from s i = c .field .ensures ∙ from-at s i in
-    omega (arith, well-placed s i (c .before .before .pre .in-place) .from-low)
+    omega (arith, in-place s i (c .before .before .pre .in-place) .from-low)
 
 is-marked-requires : tie.Need-is-marked-requires
 is-marked-requires c κs = search needs

@@ -1,6 +1,5 @@
 -- `layout::first` meets its contract.
 use borrow.Author.Needs.{needs}
-use mathlib.Core.Path.{refl}
 use Rattle.sheet.specs.Layout.{first}
 use Rattle.sheet.proofs.layout.first.Statement.{statement}
 use Rattle.sheet.proofs.layout.first.Tie as tie

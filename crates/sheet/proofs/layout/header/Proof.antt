@@ -1,6 +1,5 @@
 -- `layout::header` meets its contract.
 use borrow.Author.Needs.{needs}
-use mathlib.Core.Path.{refl}
 use Rattle.sheet.specs.Layout.{header, byte}
 use Rattle.sheet.proofs.layout.header.Statement.{statement}
 use Rattle.sheet.proofs.layout.header.Tie as tie

@@ -34,7 +34,7 @@ add-result-2 : tie.Need-add-result-2
 add-result-2 c =
     let row : (c .args .round - 1) * c .args .n ≤ 64770 = mul-le-mul {n₂ = 254} {m₂ = 255} (omega arith) (omega arith) in
     let cell : ((c .args .round - 1) * c .args .n + (c .args .from - 1)) * c .args .n ≤ 16581120 =
-      mul-le-mul {n₂ = 65024} {m₂ = 255} (omega arith) (omega arith) in
+    mul-le-mul {n₂ = 65024} {m₂ = 255} (omega arith) (omega arith) in
     omega arith
 
 returns : tie.Need-returns

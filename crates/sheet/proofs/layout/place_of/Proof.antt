@@ -1,12 +1,11 @@
 -- `layout::place_of` meets its contract: the round and both stations are in their ranges.
 use borrow.Author.Needs.{needs}
-use Prim.Native.Nat.{_≤_}
 use mathlib.Core.Path.{_≡_, _∙_}
 use native.Mathlib.Omega.{arith}
 use Rattle.sheet.specs.Layout.{round, from, to}
 use Rattle.sheet.specs.Reading.{place-of}
 use Rattle.sheet.proofs.LayoutLaws.{round-at, from-at, to-at}
-use Rattle.sheet.proofs.PlaceLaws.{well-placed, place-in-largest}
+use Rattle.sheet.proofs.PlaceLaws.{in-place, place-in-largest}
 use Rattle.sheet.proofs.layout.place_of.Statement.{statement}
 use Rattle.sheet.proofs.layout.place_of.Tie as tie
 
@@ -32,7 +31,7 @@ place-requires : tie.Need-place-requires
 place-requires c κs =
     let s = c .before .before .before .before .args .sheet .now in
     let i = c .before .before .before .before .args .i in
-    let w = well-placed s i (c .before .before .before .before .pre .in-place) in
+    let w = in-place s i (c .before .before .before .before .pre .in-place) in
     let r : c .before .before .field .result ≡ round s i = c .before .before .field .ensures ∙ round-at s i in
     let f : c .before .field2 .result ≡ from s i = c .before .field2 .ensures ∙ from-at s i in
     let t : c .field3 .result ≡ to s i = c .field3 .ensures ∙ to-at s i in
@@ -48,7 +47,7 @@ returns c =
     let f : c .before .before .field2 .result ≡ from s i = c .before .before .field2 .ensures ∙ from-at s i in
     let t : c .before .field3 .result ≡ to s i = c .before .field3 .ensures ∙ to-at s i in
     let e : c .place .result ≡ place-of s i = rw (c .place .ensures, r, f, t, p .n-is) in
-    (e, rw e (place-in-largest s i (well-placed s i (p .in-place)) (p .sound)))
+    (e, rw e (place-in-largest s i (in-place s i (p .in-place)) (p .sound)))
 
 pub place-of-spec : {M : Type 1} → statement M
 place-of-spec =

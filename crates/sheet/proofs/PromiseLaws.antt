@@ -1,0 +1,78 @@
+-- Laws of what the reader promises: what causes 1 to 8 let through, and the promise by what the verdict is. Assumes nothing.
+use Prim.Native.Nat.{ℕ}
+use mathlib.Core.Path.{_≡_, refl}
+use mathlib.Core.List.{List}
+use lib.ListN.{length}
+use Rattle.line.specs.Line.{table-length}
+use Rattle.line.specs.Cause.{code, written}
+use Rattle.line.specs.Header.{header-verdict, exact-length}
+use Rattle.line.specs.declared.cause.Cause.{Cause}
+use Rattle.line.specs.declared.cause.Verdict.{Verdict}
+use Rattle.line.specs.declared.cause.Verdict.the-variants as verdict
+use Rattle.line.proofs.HeaderLaws.{both-accepted, header-sound, length-exact}
+use Rattle.sheet.specs.declared.Header.{Header}
+use Rattle.sheet.specs.declared.Reading.{Reading}
+use Rattle.sheet.specs.declared.Reading.the-variants as reading
+use Rattle.sheet.specs.Layout.{header}
+use Rattle.sheet.specs.Chain.{Fate}
+use Rattle.sheet.specs.Judgement.{sheet-form, line-and-length, opening-verdict, chain-verdict, sheet-verdict}
+use Rattle.sheet.specs.Reading.{table-of, reading-number, reading-by, Reads}
+use Rattle.sheet.specs.Loops.{Whole, SoundHeader}
+use Rattle.sheet.proofs.FormLaws.{form-sound}
+use Rattle.sheet.proofs.ChainLaws.{fate}
+
+module _ (s : List ℕ) where
+  -- ---- what causes 1 to 8 let through
+
+  module _ (l : ℕ) (e : opening-verdict s l ≡ verdict.Accepted) where
+    pub opening-whole : Whole s
+    unfolding opening-verdict
+    opening-whole =
+        let w = form-sound s (both-accepted (sheet-form s) (line-and-length s l) e .0) in
+        record { whole = w .length-is; most = w .most }
+
+    opening-both : let h = header s in
+        (header-verdict (h .n) (h .t) (h .upper) (h .sender) (h .value) (h .marks) ≡ verdict.Accepted)
+        × (exact-length (table-length (h .n) (h .t)) l ≡ verdict.Accepted)
+    unfolding opening-verdict line-and-length
+    opening-both = both-accepted _ _ (both-accepted (sheet-form s) (line-and-length s l) e .1)
+
+    pub opening-sound : SoundHeader (header s)
+    opening-sound = header-sound _ _ _ _ _ _ (opening-both .0)
+
+    pub opening-length : l ≡ table-length (header s .n) (header s .t)
+    opening-length = length-exact _ _ (opening-both .1)
+
+  -- ---- the promise
+
+  -- the number is the verdict's
+  number-by : (v : Verdict) (h : Header) → reading-number (reading-by v h) ≡ code v
+  number-by verdict.Accepted h = refl
+  number-by (verdict.Refused c) h = refl
+
+  -- by the verdict of a fate
+  promised : (table₀ table₁ : List ℕ) (answer : Reading) (f : Fate s) (v : Verdict) → sheet-verdict s (length table₀) f ≡ v
+      → answer ≡ reading-by v (header s) → table₁ ≡ written v (table-of s f) table₀ → Reads s table₀ table₁ answer
+  promised table₀ table₁ answer f v e a t = record {
+    fate = f;
+    answer-is = rw e a;
+    number-is = rw (e, a) (number-by v (header s));
+    table-is = rw e t;
+  }
+
+  -- refused by 1 to 8, whatever becomes of the chain
+  pub refused-opening : (table : List ℕ) (c : Cause) → opening-verdict s (length table) ≡ verdict.Refused c → Reads s table table (reading.Refused c)
+  unfolding sheet-verdict
+  refused-opening table c e = promised table table (reading.Refused c) (fate s) (verdict.Refused c) (rw e) refl refl
+
+  module _ (table : List ℕ) (f : Fate s) (o : opening-verdict s (length table) ≡ verdict.Accepted) where
+    -- refused after that
+    pub refused-later : (c : Cause) → chain-verdict s f ≡ verdict.Refused c → Reads s table table (reading.Refused c)
+    unfolding sheet-verdict
+    refused-later c e = promised table table (reading.Refused c) f (verdict.Refused c) (rw (o, e)) refl refl
+
+    -- and accepted
+    pub accepted-read : (h : Header) (filled : List ℕ) → chain-verdict s f ≡ verdict.Accepted → h ≡ header s → filled ≡ table-of s f
+        → Reads s table filled (reading.Accepted h)
+    unfolding sheet-verdict
+    accepted-read h filled e q t = promised table filled (reading.Accepted h) f verdict.Accepted (rw (o, e)) (rw q) t

@@ -1,0 +1,39 @@
+-- `read` meets its contract: causes 1 to 8 come first.
+use borrow.Author.Needs.{needs}
+use mathlib.Core.Path.{sym, _∙_}
+use Rattle.sheet.proofs.PromiseLaws.{refused-opening}
+use Rattle.sheet.proofs.read.Statement.{statement}
+use Rattle.sheet.proofs.read.Tie as tie
+
+opening-requires : tie.Need-opening-requires
+opening-requires c κs = search needs
+
+enum-told : tie.Need-enum-told
+enum-told c = search needs
+
+read-chain-requires : tie.Need-read-chain-requires
+read-chain-requires c κs = sym (c .before .before .before .opening .ensures) ∙ c .before .enum-told .given .1
+
+enum-known-verdict : tie.Need-enum-known-verdict
+enum-known-verdict c = search needs
+
+same-length : tie.Need-same-length
+same-length c = search needs
+
+returns : tie.Need-returns
+returns c = search needs
+
+returns-2 : tie.Need-returns-2
+returns-2 c = refused-opening _ _ _ (sym (c .before .before .before .opening .ensures) ∙ c .before .verdict .given .1)
+
+pub read-spec : {M : Type 1} → statement M
+read-spec =
+    tie.close
+    (tie.spec
+    opening-requires
+    enum-told
+    read-chain-requires
+    enum-known-verdict
+    same-length
+    returns
+    returns-2)
