@@ -1,0 +1,115 @@
+-- The cases A to H of document 01, "Runs worked through": one table, a row for each sheet.
+use Prim.Native.Nat.{ℕ}
+use mathlib.Core.Path.{_≡_}
+use mathlib.Core.List.{List, [], _∷_, _++_}
+use Rattle.line.specs.Cause.{code}
+use Rattle.sheet.specs.Chain.{Fate}
+use Rattle.listing.specs.Lines.{Field, agree, num, dash, verdict, lines}
+
+-- what must come out of a sheet: its listing's lines, or that it is accepted, or the number that it is refused by
+pub data Outcome : Type 0 where
+  prints : List (List Field) → Outcome
+  accepted : Outcome
+  refused-by : ℕ → Outcome
+
+pub record Case : Type 0 where
+  pub sheet : List ℕ
+  pub comes-out : Outcome
+
+-- it comes out, by the definitions that the calls promise
+abbrev pub Comes : (s : List ℕ) → Outcome → Type 0
+Comes s (prints l) = (fate : Fate s) × (code (verdict s fate) ≡ 0) × (lines s fate ≡ l)
+Comes s accepted = (fate : Fate s) × (code (verdict s fate) ≡ 0)
+Comes s (refused-by k) = (fate : Fate s) × (code (verdict s fate) ≡ k)
+
+-- ---- sheets
+
+-- a header with fewer than nine stations marked: n, t, T, sender, value, first index, marks
+abbrev pub head : ℕ → ℕ → ℕ → ℕ → ℕ → ℕ → ℕ → List ℕ
+head n t T sender value first marks =
+    n ∷ t ∷ T ∷ sender ∷ value ∷ 0 ∷ first ∷ 0 ∷ marks ∷ 0 ∷ 0 ∷ 0 ∷ []
+
+-- a record: round, from, to, ballot, next index
+abbrev pub rec : ℕ → ℕ → ℕ → ℕ → ℕ → List ℕ
+rec round from to ballot next = round ∷ from ∷ to ∷ ballot ∷ next ∷ 0 ∷ 0 ∷ 0 ∷ []
+
+-- ---- lines
+
+-- a good station's line: number, value, grade, flag
+abbrev pub good : ℕ → ℕ → ℕ → ℕ → List Field
+good i value grade flag = num i ∷ num value ∷ num grade ∷ num flag ∷ []
+
+abbrev pub bad : ℕ → List Field
+bad i = num i ∷ dash ∷ dash ∷ dash ∷ []
+
+-- the first line: n, t, T, sender, R
+abbrev pub opening : ℕ → ℕ → ℕ → ℕ → ℕ → List Field
+opening n t T sender R = agree ∷ num n ∷ num t ∷ num T ∷ num sender ∷ num R ∷ []
+
+-- ---- the table
+
+abbrev pub case-A : Case
+case-A = record {
+  sheet = 4 ∷ 1 ∷ 1 ∷ 1 ∷ 1 ∷ 0 ∷ 0 ∷ 0 ∷ 8 ∷ 0 ∷ 0 ∷ 0 ∷ [];
+  comes-out = prints (opening 4 1 1 1 9 ∷ good 1 1 2 0 ∷ good 2 1 2 0 ∷ good 3 1 2 0 ∷ bad 4 ∷ []);
+}
+
+-- "station 4 bad, telling station 1 a one and stations 2 and 3 a zero in round 1, then silent"
+abbrev pub case-B : Case
+case-B = record {
+  sheet = head 4 0 1 4 0 1 8 ++ rec 1 4 1 1 2 ++ rec 1 4 2 0 3 ++ rec 1 4 3 0 0;
+  comes-out = prints (opening 4 0 1 4 6 ∷ good 1 0 1 1 ∷ good 2 0 1 1 ∷ good 3 0 1 1 ∷ bad 4 ∷ []);
+}
+
+-- "station 1 bad, sending 0 to station 2 and 1 to station 3 in rounds 1, 2, 3, 5 and 6, else silent"
+abbrev pub case-C : Case
+case-C = record {
+  sheet =
+      head 3 0 1 1 0 1 1
+      ++ rec 1 1 2 0 2 ++ rec 1 1 3 1 3
+      ++ rec 2 1 2 0 4 ++ rec 2 1 3 1 5
+      ++ rec 3 1 2 0 6 ++ rec 3 1 3 1 7
+      ++ rec 5 1 2 0 8 ++ rec 5 1 3 1 9
+      ++ rec 6 1 2 0 10 ++ rec 6 1 3 1 0;
+  comes-out = prints (opening 3 0 1 1 6 ∷ bad 1 ∷ good 2 0 1 1 ∷ good 3 1 1 1 ∷ []);
+}
+
+abbrev pub case-D : Case
+case-D = record { sheet = head 1 0 0 1 0 0 0; comes-out = prints (opening 1 0 0 1 6 ∷ good 1 0 2 0 ∷ []) }
+
+-- "Marked bad instead: three dashes."
+abbrev pub case-D-bad : Case
+case-D-bad = record { sheet = head 1 0 0 1 0 0 1; comes-out = prints (opening 1 0 0 1 6 ∷ bad 1 ∷ []) }
+
+-- a header alone, of value 0 and sender 1, with no station marked
+abbrev pub bare : ℕ → ℕ → ℕ → Outcome → Case
+bare n t T o = record { sheet = head n t T 1 0 0 0; comes-out = o }
+
+abbrev pub cases : List Case
+cases =
+    case-A
+    ∷ case-B
+    ∷ case-C
+    ∷ case-D
+    ∷ case-D-bad
+    -- E: "n 32 accepts t 10, T 10 and refuses t 11, T 11 by 3; it accepts t 0, T 15 and refuses t 0, T 16."
+    ∷ bare 32 10 10 accepted
+    ∷ bare 32 11 11 (refused-by 3)
+    ∷ bare 32 0 15 accepted
+    ∷ bare 32 0 16 (refused-by 3)
+    -- F: "n 3, t 1, T 1 is refused by 3; n 4, t 1, T 1 is accepted."
+    ∷ bare 3 1 1 (refused-by 3)
+    ∷ bare 4 1 1 accepted
+    -- G: "First index 1 and k 0 is 9. One record whose next index is 1 is 10."
+    ∷ record { sheet = head 4 1 1 1 1 1 8; comes-out = refused-by 9 }
+    ∷ record { sheet = head 4 1 1 1 1 1 8 ++ rec 1 4 1 1 1; comes-out = refused-by 10 }
+    -- H: "Thirteen bytes of sheet are 1; n 0 in a full header is 2; n 33 is 2."
+    ∷ record { sheet = head 4 1 1 1 1 0 8 ++ 0 ∷ []; comes-out = refused-by 1 }
+    ∷ bare 0 0 0 (refused-by 2)
+    ∷ bare 33 0 0 (refused-by 2)
+    ∷ []
+
+-- every row holds
+abbrev pub All : List Case → Type 0
+All [] = Unit
+All (c ∷ cs) = Comes (c .sheet) (c .comes-out) × All cs

@@ -1,0 +1,1 @@
+// The listing of a run: its lines are defined in specs/.
