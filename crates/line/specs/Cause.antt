@@ -1,7 +1,7 @@
 -- The causes of refusal by their numbers, and which of several is given (document 01, "Refused causes").
 use Prim.Native.Nat.{ℕ}
 use mathlib.Core.Bool.{Bool}
-use mathlib.Core.List.{List}
+use mathlib.Core.List.{List, []}
 use Rattle.line.specs.Count.{if_then_else_}
 use Rattle.line.specs.declared.cause.Cause.{Cause}
 use Rattle.line.specs.declared.cause.Cause.the-variants.{SheetForm, StationCount, Thresholds, StationNumber, Value, MarkBeyond, StationState, Length, ChainLeaves, ChainRepeats, RecordForm, UnmarkedSender, Duplicate}
@@ -43,3 +43,8 @@ Accepted or-else next = next
 abbrev pub written : Verdict → List ℕ → List ℕ → List ℕ
 written Accepted new old = new
 written (Refused c) new old = old
+
+-- the values of an answer: none where it is a refusal
+abbrev pub given : Verdict → List ℕ → List ℕ
+given Accepted values = values
+given (Refused c) values = []

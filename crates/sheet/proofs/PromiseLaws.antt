@@ -4,7 +4,7 @@ use mathlib.Core.Path.{_≡_, refl}
 use mathlib.Core.List.{List}
 use lib.ListN.{length}
 use Rattle.line.specs.Line.{table-length}
-use Rattle.line.specs.Cause.{code, written}
+use Rattle.line.specs.Cause.{code, written, given}
 use Rattle.line.specs.Header.{header-verdict, exact-length}
 use Rattle.line.specs.declared.cause.Cause.{Cause}
 use Rattle.line.specs.declared.cause.Verdict.{Verdict}
@@ -16,7 +16,7 @@ use Rattle.sheet.specs.declared.Reading.the-variants as reading
 use Rattle.sheet.specs.Layout.{header}
 use Rattle.sheet.specs.Chain.{Fate}
 use Rattle.sheet.specs.Judgement.{sheet-form, line-and-length, opening-verdict, chain-verdict, sheet-verdict}
-use Rattle.sheet.specs.Reading.{table-of, reading-number, reading-by, Reads}
+use Rattle.sheet.specs.Reading.{table-of, numbers-of, reading-number, reading-values, reading-by, Reads}
 use Rattle.sheet.specs.Loops.{Whole, SoundHeader}
 use Rattle.sheet.proofs.FormLaws.{form-sound}
 use Rattle.sheet.proofs.ChainLaws.{fate}
@@ -50,6 +50,11 @@ module _ (s : List ℕ) where
   number-by verdict.Accepted h = refl
   number-by (verdict.Refused c) h = refl
 
+  -- and so are the values
+  values-by : (v : Verdict) (h : Header) → reading-values (reading-by v h) ≡ given v (numbers-of h)
+  values-by verdict.Accepted h = refl
+  values-by (verdict.Refused c) h = refl
+
   -- by the verdict of a fate
   promised : (table₀ table₁ : List ℕ) (answer : Reading) (f : Fate s) (v : Verdict) → sheet-verdict s (length table₀) f ≡ v
       → answer ≡ reading-by v (header s) → table₁ ≡ written v (table-of s f) table₀ → Reads s table₀ table₁ answer
@@ -57,6 +62,7 @@ module _ (s : List ℕ) where
     fate = f;
     answer-is = rw e a;
     number-is = rw (e, a) (number-by v (header s));
+    values-are = rw (e, a) (values-by v (header s));
     table-is = rw e t;
   }
 

@@ -5,7 +5,7 @@ use mathlib.Core.List.{List, [], _∷_}
 use lib.ListN.{length, set, replicate}
 use Rattle.line.specs.Line.{table-length, place}
 use Rattle.line.specs.Ballot.{silence}
-use Rattle.line.specs.Cause.{number, code, written}
+use Rattle.line.specs.Cause.{number, code, written, given}
 use Rattle.line.specs.declared.cause.Verdict.{Verdict}
 use Rattle.line.specs.declared.cause.Verdict.the-variants as verdict
 use Rattle.sheet.specs.declared.Header.{Header}
@@ -38,8 +38,12 @@ abbrev pub reading-number : Reading → ℕ
 reading-number (reading.Accepted h) = 0
 reading-number (reading.Refused c) = number c
 
+-- n, t, T, sender, value, marks
+abbrev pub numbers-of : Header → List ℕ
+numbers-of h = h .n ∷ h .t ∷ h .upper ∷ h .sender ∷ h .value ∷ h .marks ∷ []
+
 abbrev pub reading-values : Reading → List ℕ
-reading-values (reading.Accepted h) = h .n ∷ h .t ∷ h .upper ∷ h .sender ∷ h .value ∷ h .marks ∷ []
+reading-values (reading.Accepted h) = numbers-of h
 reading-values (reading.Refused c) = []
 
 abbrev pub reading-by : Verdict → Header → Reading
@@ -53,5 +57,6 @@ pub record Reads (s table₀ table₁ : List ℕ) (answer : Reading) : Type 0 wh
   -- the header's numbers, or the refusal
   pub answer-is : answer ≡ reading-by (sheet-verdict s (length table₀) fate) (header s)
   pub number-is : reading-number answer ≡ code (sheet-verdict s (length table₀) fate)
+  pub values-are : reading-values answer ≡ given (sheet-verdict s (length table₀) fate) (numbers-of (header s))
   -- every byte of the table at exit: the sheet's, or as it was
   pub table-is : table₁ ≡ written (sheet-verdict s (length table₀) fate) (table-of s fate) table₀

@@ -3,7 +3,7 @@ use Prim.Native.Nat.{ℕ}
 use mathlib.Core.Path.{_≡_, refl, ap, _∙_}
 use mathlib.Core.List.{List, [], _∷_}
 use lib.ListN.{length}
-use Rattle.line.specs.Cause.{code}
+use Rattle.line.specs.Cause.{code, given}
 use Rattle.line.specs.declared.cause.Verdict.{Verdict}
 use Rattle.line.specs.declared.cause.Verdict.the-variants.{Accepted, Refused}
 use Rattle.broadcast.specs.Station.{ballot, advance, Result, running, done, result, at}
@@ -14,7 +14,7 @@ use Rattle.station.specs.declared.Advanced.{Advanced}
 use Rattle.station.specs.declared.Outcome.{Outcome}
 use Rattle.station.specs.Judgement.{station-verdict, telling-verdict, taking-verdict, opening-verdict}
 use Rattle.station.specs.Automaton.{setup-of, state-of, in-state, opened-station, as-outcome, outcome-of}
-use Rattle.station.specs.Answers.{bytes-of, given, opened-number, opened-values, opened-by, Opens, told-number, told-values, told-by, Tells, advanced-number, advanced-values, advanced-by, Advances, outcome-number, outcome-values, outcome-by, result-values, Results}
+use Rattle.station.specs.Answers.{bytes-of, opened-number, opened-values, opened-by, Opens, told-number, told-values, told-by, Tells, advanced-number, advanced-values, advanced-by, Advances, outcome-number, outcome-values, outcome-by, result-values, Results}
 
 opened-case : (v : Verdict) (s : Station)
     → (opened-number (opened-by v s) ≡ code v) × (opened-values (opened-by v s) ≡ given v (bytes-of s))

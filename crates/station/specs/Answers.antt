@@ -4,7 +4,7 @@ use Prim.Native.Nat.{ℕ}
 use mathlib.Core.Path.{_≡_}
 use mathlib.Core.List.{List, [], _∷_}
 use lib.ListN.{length}
-use Rattle.line.specs.Cause.{number, code}
+use Rattle.line.specs.Cause.{number, code, given}
 use Rattle.line.specs.declared.cause.Verdict.{Verdict}
 use Rattle.line.specs.declared.cause.Verdict.the-variants as verdict
 use Rattle.broadcast.specs.Station.{ballot, advance, Result, running, done, result, at}
@@ -19,11 +19,6 @@ use Rattle.station.specs.declared.Outcome.{Outcome}
 use Rattle.station.specs.declared.Outcome.the-variants as outcome
 use Rattle.station.specs.Judgement.{station-verdict, telling-verdict, taking-verdict, opening-verdict}
 use Rattle.station.specs.Automaton.{setup-of, state-of, in-state, opened-station, outcome-of}
-
--- the values of an answer that is not refused
-abbrev pub given : Verdict → List ℕ → List ℕ
-given verdict.Accepted values = values
-given (verdict.Refused c) values = []
 
 -- ---- opening
 
