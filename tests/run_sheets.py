@@ -102,14 +102,13 @@ def sheet_form():
 
 def line_numbers():
     """Causes 2 and 3."""
-    for n, t, T in (2, 0, 0), (3, 0, 1), (4, 0, 1), (5, 2, 1), (7, 2, 2), (31, 10, 10):
-        cause = 3 if t > T else 0
-        yield given(cause, header(Call(n, t, T, 1, 1, 0)))
+    for n, t, T in (2, 0, 0), (3, 0, 1), (4, 0, 1), (7, 2, 2), (8, 1, 3), (31, 10, 10):
+        yield given(0, header(Call(n, t, T, 1, 1, 0)))
     for n in 33, 34, 64, 128, 255:
         yield given(2, header(LINE._replace(n=n)))
     yield given(2, header(Call(0, 0, 0, 0, 0, 0)))
     # t above T; then t + 2T equal to n, and above it, also by sums that a byte does not hold
-    for n, t, T in (9, 2, 1), (4, 1, 0), (32, 1, 0), (32, 255, 0):
+    for n, t, T in (9, 2, 1), (5, 2, 1), (4, 1, 0), (32, 1, 0), (32, 255, 0):
         yield given(3, header(Call(n, t, T, 1, 1, 0)))
     for n, t, T in (1, 0, 1), (2, 0, 1), (4, 0, 2), (5, 1, 2), (6, 2, 2), (30, 10, 10), (32, 10, 11), (32, 2, 15):
         yield given(3, header(Call(n, t, T, 1, 1, 0)))
@@ -160,8 +159,8 @@ def chains():
     three = [GOOD, Record(2, 3, 2), Record(9, 4, 4, 0)]
     for order in (1, 2, 3), (3, 2, 1), (2, 3, 1):
         yield given(0, chained(LINE, three, order))
-    # records outside the chain: garbage, a loop, a way out, a second ballot for a place, a good sender
-    for rest in b"\xff" * 8, bytes(8), packed(Record(1, 3, 1, 0, 2)), packed(Record(1, 3, 1, 0, 9)), packed(Record(1, 1, 1, 0, 0)):
+    # records outside the chain: garbage, or second ballots for a place that point to each other, out, or into the chain
+    for rest in b"\xff" * 8, bytes(8), *(packed(GOOD._replace(ballot=0, next=index)) for index in (2, 9, 5)):
         yield given(0, chained(LINE, three, (5, 1, 3), 6, rest))
     yield given(0, chained(LINE, three, first=0))
     yield given(0, chained(LINE, three, first=2))
@@ -179,7 +178,7 @@ def chains():
         for back in range(1, q + 2):
             records = [*three[:q], three[q]._replace(next=back), *three[q + 1:]]
             yield given(10, chained(LINE, records))
-    # a loop through all of them, one that leaves out what stands between, and one that is entered from its far end
+    # a loop through all of them, one into the middle that leaves a record out, and one that is entered at its last record
     yield given(10, chained(LINE, [*three[:2], three[2]._replace(next=3)], (3, 1, 2)))
     yield given(10, chained(LINE, [GOOD, Record(2, 3, 2), Record(3, 3, 3, next=5), Record(4, 3, 4)], (2, 5, 3, 1), 6))
     yield given(10, chained(LINE, [*three[:2], three[2]._replace(next=1)], first=3))

@@ -48,18 +48,18 @@ class Reader:
     def __init__(self):
         self.table, self.longer, self.lines, self.causes, self.amiss = [255] * LARGEST, [0] * 65536, [], [], []
 
-    def run(self, stored):
+    def run(self, one):
         """Reads a sheet and rehearses it. What comes out otherwise than document 01 says is kept in amiss."""
-        buffer = self.table if stored.lent <= LARGEST else self.longer
-        cause, buffer[:stored.lent] = sheet.read(stored.sheet, buffer[:stored.lent])
-        table, outcomes = buffer[:stored.lent], None
-        call = sheet.header(stored.sheet) if cause == 0 else ("refused", cause)
-        line = f"run {len(self.lines) + 1}: {' '.join(map(str, call))}; table {checksum(table)}"
+        buffer, name = self.table if one.lent <= LARGEST else self.longer, f"run {len(self.lines) + 1}:"
+        cause, buffer[:one.lent] = sheet.read(one.sheet, buffer[:one.lent])
+        table, outcomes = buffer[:one.lent], None
+        call = sheet.header(one.sheet) if cause == 0 else ("refused", cause)
+        line = " ".join(map(str, [name, *call])) + f"; table {checksum(table)}"
         if cause == 0:
             log, outcomes = rehearsed(call, table)
             line += f"; accepted: {' '.join(map(str, outcomes))}; sums {checksum(log)} {checksum(outcomes)}"
-        if stored.cause not in (None, cause) or stored.outcomes not in (None, outcomes):
-            self.amiss.append(f"run {len(self.lines) + 1}: document 01 gives {stored.cause} {stored.outcomes}, not {cause} {outcomes}")
+        if one.cause not in (None, cause) or one.outcomes not in (None, outcomes):
+            self.amiss.append(f"{name} document 01 gives {one.cause} {one.outcomes}, not {cause} {outcomes}")
         self.lines.append(line)
         self.causes.append(cause)
 
@@ -81,7 +81,7 @@ def differences(name, ours):
     if theirs == ours:
         return []
     at = next((q for q, (a, b) in enumerate(zip(ours, theirs)) if a != b), min(len(ours), len(theirs)))
-    return [f"crates/runs/{name}: differs from byte {at}, line {ours[:at].count(10) + 1}, on; has {len(theirs)} bytes, not {len(ours)}"]
+    return [f"crates/runs/{name}: differs from byte {at} on, and has {len(theirs)} bytes where {len(ours)} are computed"]
 
 
 def check():

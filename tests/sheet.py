@@ -38,7 +38,7 @@ def opening(sheet, lent):
         6: any(marks >> (i - 1) & 1 for i in range(n + 1, 33)),
         8: lent != table_size(n, t),
     }
-    return min((number for number, holds in causes.items() if holds), default=0)
+    return min((c for c, holds in causes.items() if holds), default=0)
 
 
 def record(sheet, index):

@@ -1,4 +1,4 @@
-// The runs on standard input, each the sheet's length and the lent table's, two bytes each with the low byte first, then the sheet.
+// The runs on standard input. Each is the sheet's length and the lent table's, two bytes with the low byte first, then the sheet.
 use crate::run;
 use libc::STDIN_FILENO;
 
