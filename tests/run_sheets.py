@@ -1,0 +1,424 @@
+"""The sheets that the program of crate runs is given: document 01's cases, every cause in its variants, causes in
+conflict, chains of every shape, the longest sheets, and sheets drawn by lot, many of them damaged.
+
+Each has the length of the table that is lent with it. Those that are not drawn have the answer that document 01 gives.
+"""
+from collections import namedtuple
+
+Call = namedtuple("Call", "n t T sender value marks")
+# a next index of None is that of the record after it in the chain, or 0
+Record = namedtuple("Record", "round sender to ballot next tail", defaults=(1, None, 0))
+# cause is None where the answer is not known beforehand; so are the outcomes
+Stored = namedtuple("Stored", "sheet lent cause outcomes", defaults=(None, None))
+
+LARGEST, MOST_RECORDS = 36864, 4096
+LINE = Call(4, 1, 1, 1, 1, 0b1100)  # stations 3 and 4 are bad; R is 9
+GOOD = Record(1, 3, 1)
+
+
+def two(number):
+    return number.to_bytes(2, "little")
+
+
+def header(call, first=0, zero=0):
+    return bytes([*call[:5], zero]) + two(first) + call.marks.to_bytes(4, "little")
+
+
+def packed(record):
+    return bytes(record[:4]) + two(record.next) + two(record.tail)
+
+
+def chained(call, records, order=None, k=None, rest=b"\xff" * 8, first=None, zero=0):
+    """A sheet with a chain of the records. The q-th of them stands at index order[q], and every index up to k that is
+    left has the bytes of rest."""
+    order = order or range(1, len(records) + 1)
+    stored = [rest] * (k if k is not None else len(records))
+    for record, index, after in zip(records, order, [*order[1:], 0]):
+        stored[index - 1] = packed(record if record.next is not None else record._replace(next=after))
+    start = first if first is not None else order[0] if records else 0
+    return header(call, start, zero) + b"".join(stored)
+
+
+def own_length(sheet):
+    """The length of the run table by the sheet's header, where a frame can hold it."""
+    n, t = sheet[:2] if len(sheet) > 1 else (0, 0)
+    size = (3 * t + 6) * n * n
+    return size if size < 65536 else LARGEST
+
+
+def given(cause, sheet, lent=None, outcomes=None):
+    return Stored(sheet, own_length(sheet) if lent is None else lent, cause, outcomes)
+
+
+def place_numbers(call):
+    """Round, from and to of every place of the run table."""
+    stations = range(1, call.n + 1)
+    return [(r, i, j) for r in range(1, 3 * call.t + 7) for i in stations for j in stations]
+
+
+def filler():
+    """All stations bad, and a ballot other than 255 in every place: what a later run writes there shows."""
+    call = LINE._replace(marks=15)
+    return given(0, chained(call, [Record(*p, 7 * q % 255) for q, p in enumerate(place_numbers(call))]))
+
+
+# ---- document 01's cases
+
+def worked():
+    bad, a = [255] * 3, Call(4, 1, 1, 1, 1, 8)
+    yield given(0, bytes([4, 1, 1, 1, 1, 0, 0, 0, 8, 0, 0, 0]), outcomes=[1, 2, 0] * 3 + bad)
+    told = [Record(1, 4, 1, 1), Record(1, 4, 2, 0), Record(1, 4, 3, 0)]
+    yield given(0, chained(Call(4, 0, 1, 4, 0, 8), told), outcomes=[0, 1, 1] * 3 + bad)
+    told = [Record(r, 1, j, j - 2) for r in (1, 2, 3, 5, 6) for j in (2, 3)]
+    yield given(0, chained(Call(3, 0, 1, 1, 0, 1), told), outcomes=bad + [0, 1, 1, 1, 1, 1])
+    yield given(0, header(Call(1, 0, 0, 1, 0, 0)), outcomes=[0, 2, 0])
+    yield given(0, header(Call(1, 0, 0, 1, 0, 1)), outcomes=bad)
+    yield given(0, header(Call(32, 10, 10, 1, 0, 0)))
+    yield given(0, header(Call(32, 0, 15, 1, 0, 0)))
+    yield given(0, header(Call(4, 1, 1, 1, 0, 0)))
+    yield given(3, header(Call(32, 11, 11, 1, 0, 0)))
+    yield given(3, header(Call(32, 0, 16, 1, 0, 0)))
+    yield given(3, header(Call(3, 1, 1, 1, 0, 0)))
+    yield given(9, header(a, first=1))
+    yield given(10, chained(a, [Record(1, 4, 1, next=1)]))
+    yield given(1, header(a) + b"\0")
+    yield given(2, header(a._replace(n=0)))
+    yield given(2, header(a._replace(n=33)))
+
+
+# ---- causes 1 to 8, one at a time
+
+def sheet_form():
+    whole = chained(LINE, [GOOD, Record(2, 4, 2)])
+    unchained = header(LINE) + whole[12:]
+    for length in 12, 20, 28:
+        yield given(0, unchained[:length])
+    for length in 0, 1, 4, 5, 6, 8, 11, 13, 16, 19, 21, 27:
+        yield given(1, unchained[:length], 144)
+    yield given(1, whole + b"\0")
+    for zero in 1, 2, 128, 255:
+        yield given(1, chained(LINE, [GOOD], zero=zero))
+
+
+def line_numbers():
+    """Causes 2 and 3."""
+    for n, t, T in (2, 0, 0), (3, 0, 1), (4, 0, 1), (7, 2, 2), (8, 1, 3), (31, 10, 10):
+        yield given(0, header(Call(n, t, T, 1, 1, 0)))
+    for n in 33, 34, 64, 128, 255:
+        yield given(2, header(LINE._replace(n=n)))
+    yield given(2, header(Call(0, 0, 0, 0, 0, 0)))
+    # t above T; then t + 2T equal to n, and above it, also by sums that a byte does not hold
+    for n, t, T in (9, 2, 1), (5, 2, 1), (4, 1, 0), (32, 1, 0), (32, 255, 0):
+        yield given(3, header(Call(n, t, T, 1, 1, 0)))
+    for n, t, T in (1, 0, 1), (2, 0, 1), (4, 0, 2), (5, 1, 2), (6, 2, 2), (30, 10, 10), (32, 10, 11), (32, 2, 15):
+        yield given(3, header(Call(n, t, T, 1, 1, 0)))
+    for n, t, T in (4, 0, 128), (4, 1, 128), (4, 85, 86), (32, 0, 255), (32, 2, 127), (4, 255, 255):
+        yield given(3, header(Call(n, t, T, 1, 1, 0)))
+
+
+def sender_and_value():
+    """Causes 4 and 5."""
+    for sender in 1, 2, 3, 4:
+        for value in 0, 1:
+            yield given(0, header(LINE._replace(sender=sender, value=value)))
+    for sender in 0, 5, 6, 33, 255:
+        yield given(4, header(LINE._replace(sender=sender)))
+    yield given(4, header(Call(32, 0, 0, 33, 0, 0)))
+    # an unmarked sender, and a marked one
+    for sender in 1, 3:
+        for value in 2, 3, 128, 255:
+            yield given(5, header(LINE._replace(sender=sender, value=value)))
+
+
+def marks():
+    """Cause 6."""
+    yield given(0, header(LINE._replace(marks=15)))
+    yield given(0, header(Call(31, 0, 0, 31, 1, 2 ** 31 - 1)))
+    yield given(0, header(Call(32, 0, 0, 32, 1, 2 ** 32 - 1)))
+    yield given(0, header(Call(32, 0, 15, 1, 0, 2 ** 31)))
+    for marked in 16, 32, 256, 2 ** 16, 2 ** 24, 2 ** 31, 16 + 12, 2 ** 32 - 1, 2 ** 32 - 16:
+        yield given(6, header(LINE._replace(marks=marked)))
+    yield given(6, header(Call(31, 0, 0, 1, 0, 2 ** 31)))
+    yield given(6, header(Call(1, 0, 0, 1, 0, 2)))
+
+
+def table_lengths():
+    """Cause 8."""
+    yield given(0, header(LINE), 144)
+    for lent in 0, 1, 128, 143, 145, 160, 36863, 36864, 36865, 40000, 65535:
+        yield given(8, chained(LINE, [GOOD]), lent)
+    for lent in 0, 36863, 36865, 65535:
+        yield given(8, header(Call(32, 10, 10, 1, 0, 0)), lent)
+    for lent in 5, 7:
+        yield given(8, header(Call(1, 0, 0, 1, 0, 0)), lent)
+
+
+# ---- causes 9 and 10
+
+def chains():
+    three = [GOOD, Record(2, 3, 2), Record(9, 4, 4, 0)]
+    for order in (1, 2, 3), (3, 2, 1), (2, 3, 1):
+        yield given(0, chained(LINE, three, order))
+    # records outside the chain: garbage, or second ballots for a place that point to each other, out, or into the chain
+    for rest in b"\xff" * 8, bytes(8), *(packed(GOOD._replace(ballot=0, next=index)) for index in (2, 9, 5)):
+        yield given(0, chained(LINE, three, (5, 1, 3), 6, rest))
+    yield given(0, chained(LINE, three, first=0))
+    yield given(0, chained(LINE, three, first=2))
+    yield given(0, header(LINE) + b"\xff" * 40)
+    # indices above 255
+    far = [Record(2, i, j, i + j) for i in (3, 4) for j in (1, 2, 3)]
+    yield given(0, chained(LINE, far, (256, 1, 300, 257, 255, 44), 300))
+    for first in 4, 5, 255, 256, 257, 512, 4096, 4097, 32768, 65535:
+        yield given(9, chained(LINE, three, first=first))
+    for out in 4, 5, 256, 257, 4097, 65535:
+        for q in range(3):
+            records = [*three[:q], three[q]._replace(next=out), *three[q + 1:]]
+            yield given(9, chained(LINE, records))
+    for q in range(3):
+        for back in range(1, q + 2):
+            records = [*three[:q], three[q]._replace(next=back), *three[q + 1:]]
+            yield given(10, chained(LINE, records))
+    # a loop through all of them, one into the middle that leaves a record out, and one that is entered at its last record
+    yield given(10, chained(LINE, [*three[:2], three[2]._replace(next=3)], (3, 1, 2)))
+    yield given(10, chained(LINE, [GOOD, Record(2, 3, 2), Record(3, 3, 3, next=5), Record(4, 3, 4)], (2, 5, 3, 1), 6))
+    yield given(10, chained(LINE, [*three[:2], three[2]._replace(next=1)], first=3))
+
+
+# ---- causes 11 to 13, one at a time
+
+def alone_and_last(cause, record):
+    """The record in a chain of its own, and after two that are in order."""
+    yield given(cause, chained(LINE, [record]))
+    yield given(cause, chained(LINE, [Record(8, 3, 4), Record(8, 4, 3), record], (2, 3, 1)))
+
+
+def records():
+    for good in (1, 3, 1), (9, 3, 1), (1, 4, 1), (1, 3, 4), (1, 3, 3), (1, 4, 3), (9, 4, 4):
+        yield from alone_and_last(0, Record(*good))
+    for ballot in 0, 1, 2, 3, 127, 128, 254, 255:
+        yield given(0, chained(LINE, [GOOD._replace(ballot=ballot)]))
+    for wrong in 0, 10, 11, 255:
+        yield from alone_and_last(11, GOOD._replace(round=wrong))
+    for wrong in 0, 5, 6, 32, 33, 35, 255:
+        yield from alone_and_last(11, GOOD._replace(sender=wrong))
+    for wrong in 0, 5, 6, 255:
+        yield from alone_and_last(11, GOOD._replace(to=wrong))
+    for tail in 1, 128, 255, 256, 32768, 65280, 257, 65535:
+        yield from alone_and_last(11, GOOD._replace(tail=tail))
+    for unmarked in 1, 2:
+        for to in 1, 3:
+            yield from alone_and_last(12, Record(1, unmarked, to))
+    yield given(12, chained(LINE._replace(marks=0), [GOOD]))
+    wide = Call(32, 0, 0, 1, 0, 2 ** 31)
+    yield given(0, chained(wide, [Record(6, 32, 32), Record(1, 32, 1)]))
+    yield given(11, chained(wide, [Record(6, 33, 32)]))
+    yield given(11, chained(wide, [Record(6, 32, 33)]))
+    yield given(11, chained(wide, [Record(7, 32, 32)]))
+    yield given(12, chained(wide, [Record(6, 31, 32)]))
+    yield given(12, chained(wide, [Record(6, 1, 32)]))
+
+
+def places():
+    """Cause 13."""
+    same = GOOD._replace(ballot=0)
+    for other in Record(1, 3, 2), Record(1, 4, 1), Record(2, 3, 1), Record(3, 1, 1), Record(3, 3, 1):
+        yield given(0, chained(LINE._replace(marks=15), [GOOD, other]))
+    for first, second in (1, 0), (0, 0), (255, 1), (1, 255), (255, 255), (7, 200):
+        pair = [GOOD._replace(ballot=first), GOOD._replace(ballot=second)]
+        yield given(13, chained(LINE, pair))
+        yield given(13, chained(LINE, [pair[0], Record(2, 3, 1), Record(9, 4, 4), pair[1]], (2, 4, 1, 3)))
+    yield given(13, chained(LINE, [Record(9, 4, 4), Record(9, 4, 4), GOOD]))
+    yield given(13, chained(LINE, [GOOD, Record(9, 4, 4), same, Record(9, 4, 4)], (4, 3, 2, 1)))
+    yield given(13, chained(Call(1, 0, 0, 1, 0, 1), [Record(r, 1, 1) for r in (1, 2, 3, 4, 5, 6, 1)]))
+    yield given(0, chained(Call(1, 0, 0, 1, 0, 1), [Record(r, 1, 1, r % 2) for r in (6, 1, 2, 3, 5, 4)]))
+
+
+# ---- causes in conflict
+
+EARLY, LATE = (1, 2, 3, 4, 5, 6, 8), (9, 10, 11, 12, 13)
+WRONG = {11: Record(0, 3, 3), 12: Record(4, 2, 2), 13: GOOD}
+
+
+def flawed(causes):
+    """A sheet for which the causes hold, with its table's length. Where n is 0 causes 3 and 4 hold too."""
+    call, records = LINE, [GOOD]
+    if 2 in causes:
+        call = call._replace(n=0 if 6 in causes else 33)
+    if 3 in causes:
+        call = call._replace(T=0)
+    if 4 in causes:
+        call = call._replace(sender=0)
+    if 5 in causes:
+        call = call._replace(value=2)
+    if 6 in causes:
+        call = call._replace(marks=2 ** 31 + 12)
+    records += [WRONG[c] for c in (11, 12, 13) if c in causes]
+    if 9 in causes or 10 in causes:
+        records.append(Record(5, 3, 3, next=9 if 9 in causes else 1))
+    sheet = chained(call, records, zero=1 if 1 in causes else 0)
+    return sheet, own_length(sheet) + (1 if 8 in causes else 0)
+
+
+def conflicts():
+    """Every two causes that can hold at once, and all from each on; then causes 11 to 13 by the chain's order."""
+    for a in EARLY + (9, 10):
+        for b in EARLY + LATE:
+            if a < b and (a, b) != (9, 10):
+                yield given(a, *flawed({a, b}))
+    for q in range(len(EARLY)):
+        for late in (9, 11, 12, 13), (10, 11, 12, 13):
+            yield given(EARLY[q], *flawed({*EARLY[q:], *late}))
+    for a in 11, 12, 13:
+        for b in 11, 12, 13:
+            for order in ((1, 2, 3), (3, 2, 1), (1, 3, 2)) if a != b else ():
+                yield given(a, chained(LINE, [GOOD, WRONG[a], WRONG[b]], order))
+    # two causes in one record
+    yield given(11, chained(LINE, [Record(0, 1, 1)]))
+    yield given(11, chained(LINE, [Record(1, 1, 1, tail=1)]))
+    yield given(11, chained(LINE, [GOOD, GOOD._replace(tail=256)]))
+    # a record reached again is never a second ballot for its place; a good sender's second ballot has the cause of the first
+    yield given(10, chained(LINE, [GOOD, GOOD._replace(next=2)]))
+    yield given(12, chained(LINE, [Record(1, 1, 1), Record(1, 1, 1)]))
+
+
+# ---- the longest sheets
+
+def longest(lot):
+    """4,096 records of a line of 32, chained in no order: as they are; then the last of them changed; then longer sheets."""
+    call = Call(32, 10, 10, 7, 1, sum(1 << (i - 1) for i in (1, 2, 4, 5, 8, 11, 17, 23, 31, 32)))
+    free = [p for p in place_numbers(call) if call.marks >> (p[1] - 1) & 1]
+    chain = [Record(*p, lot.ballot()) for p in lot.shuffled(free)[:MOST_RECORDS]]
+    order = lot.shuffled(range(1, MOST_RECORDS + 1))
+    sheet = chained(call, chain, order)
+    yield given(0, sheet)
+    again = chain[0]._replace(ballot=3)
+    yield given(13, chained(call, [*chain[:-1], again], order))
+    for cause, index in (10, order[0]), (9, MOST_RECORDS + 1):
+        yield given(cause, chained(call, [*chain[:-1], chain[-1]._replace(next=index)], order))
+    for length in 32781, 32788, 40000:
+        yield given(1, sheet + bytes(length - len(sheet)))
+
+
+# ---- sheets drawn by lot
+
+class Lot:
+    """Numbers that look drawn by lot, the same in every run."""
+
+    def __init__(self, seed):
+        self.state = seed
+
+    def below(self, n):
+        self.state = (self.state * 6364136223846793005 + 1442695040888963407) % 2 ** 64
+        return (self.state >> 33) % n
+
+    def among(self, items):
+        return items[self.below(len(items))]
+
+    def shuffled(self, items):
+        rest = list(items)
+        return [rest.pop(self.below(len(rest))) for _ in range(len(rest))]
+
+    def bytes(self, size):
+        return bytes(self.below(256) for _ in range(size))
+
+    def ballot(self):
+        return self.among((0, 0, 0, 1, 1, 1, 2, 255, self.below(256)))
+
+    def call(self):
+        n = 9 + self.below(24) if self.below(20) == 0 else 1 + self.below(8)
+        T = self.below((n - 1) // 2 + 1)
+        t = self.below(min(T, n - 1 - 2 * T) + 1)
+        rate = self.among((0, 1, 2, 2, 3, 4))
+        return Call(n, t, T, 1 + self.below(n), self.below(2), sum(1 << i for i in range(n) if self.below(4) < rate))
+
+
+class Draft:
+    """A drawn sheet that is in order, and ways to damage it."""
+
+    def __init__(self, lot):
+        self.lot, self.call = lot, lot.call()
+        free = [p for p in place_numbers(self.call) if self.call.marks >> (p[1] - 1) & 1]
+        self.chain = [Record(*p, lot.ballot()) for p in lot.shuffled(free)[:lot.below(32)]]
+        self.k = len(self.chain) + lot.below(4)
+        self.order = lot.shuffled(range(1, self.k + 1))[:len(self.chain)]
+        self.sheet = bytearray(chained(self.call, self.chain, self.order, self.k, lot.bytes(8)))
+        self.lent = own_length(self.sheet)
+
+    def put(self, at, *values):
+        """Bytes from a place on, as far as the sheet still goes."""
+        for place, value in enumerate(values, at):
+            if place < len(self.sheet):
+                self.sheet[place] = value
+
+    def record(self, least=0):
+        """Where one of the chain's records starts, from the least-th on, or no place."""
+        later = self.order[least:]
+        return 12 + 8 * (self.lot.among(later) - 1) if later else len(self.sheet)
+
+    def any_byte(self):
+        self.put(self.lot.below(len(self.sheet) + 1), self.lot.below(256))
+
+    def header_byte(self):
+        n, at = self.call.n, self.lot.among((0, 0, 1, 2, 3, 3, 4, 4, 5, 6, 7, 8, 9, 11))
+        self.put(at, self.lot.among((0, 2, n + 1, n + 1, 33, self.lot.below(256))))
+
+    def cut(self):
+        del self.sheet[self.lot.below(len(self.sheet) + 1):]
+
+    def cut_records(self):
+        del self.sheet[max(12, len(self.sheet) - 8 * (1 + self.lot.below(3))):]
+
+    def extend(self):
+        self.sheet += self.lot.bytes(1 + self.lot.below(16))
+
+    def length(self):
+        self.lent = self.lot.among((max(self.lent - 1, 0), self.lent + 1, self.lot.below(300)))
+
+    def next_index(self):
+        self.put(self.record() + 4, *two(self.lot.among((*self.order, self.k + 1, self.lot.below(65536)))))
+
+    def record_byte(self):
+        self.put(self.record() + self.lot.below(3), self.lot.among((0, 1, self.call.n, self.call.n + 1, self.lot.below(256))))
+
+    def tail(self):
+        self.put(self.record() + 6 + self.lot.below(2), self.lot.below(256))
+
+    def unmark(self):
+        if self.chain:
+            marks = self.call.marks & ~(1 << (self.lot.among(self.chain).sender - 1))
+            self.put(8, *marks.to_bytes(4, "little"))
+
+    def same_place(self):
+        at = self.record()
+        self.put(self.record(1), *self.sheet[at:at + 3])
+
+
+DAMAGES = (Draft.any_byte, Draft.cut, Draft.cut_records, Draft.extend, Draft.length, *[Draft.header_byte] * 6,
+           *[Draft.next_index] * 2, *[Draft.record_byte] * 2, Draft.tail, *[Draft.unmark] * 2, *[Draft.same_place] * 2)
+
+
+def drawn(lot, count):
+    for q in range(count):
+        if q % 10 == 0:
+            yield filler()
+        draft = Draft(lot)
+        for _ in range(lot.among((0, 1, 1, 1, 2))):
+            lot.among(DAMAGES)(draft)
+        yield Stored(bytes(draft.sheet), draft.lent)
+
+
+def fixed(lot):
+    for group in (worked(), sheet_form(), line_numbers(), sender_and_value(), marks(), table_lengths(), chains(), records(),
+                  places(), conflicts(), longest(lot)):
+        yield from group
+
+
+def stored():
+    """All of them, in order. Before a refused one that follows an accepted one, the table is filled."""
+    lot, accepted = Lot(1), True
+    for one in fixed(lot):
+        if one.cause and accepted:
+            yield filler()
+        yield one
+        accepted = one.cause == 0
+    yield from drawn(lot, 300)
