@@ -9,3 +9,5 @@ pub mod listing;
 pub mod rehearsal;
 pub mod sheet;
 pub mod station;
+pub mod text;
+pub mod timing;

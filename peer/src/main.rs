@@ -4,31 +4,62 @@ use std::io::{self, Read, Write};
 use std::process::ExitCode;
 
 use peer::listing::listing;
-use peer::sheet;
+use peer::{sheet, text};
 
 const USAGE: &str = "\
 usage: peer listing [SHEET]    the listing of a run sheet
+       peer sheet [TEXT]       the run sheet that a text stands for
+       peer text [SHEET]       a run sheet as text, in the normal form
 A file that isn't named is read from standard input. What is made goes to standard output.";
 
 fn main() -> ExitCode {
     let words: Vec<String> = std::env::args().skip(1).collect();
-    let words: Vec<&str> = words.iter().map(String::as_str).collect();
-    let made = match words[..] {
-        ["listing"] => make_listing(None),
-        ["listing", file] => make_listing(Some(file)),
-        _ => Err(USAGE.to_string()),
+    let Some((command, files)) = words.split_first() else { return usage() };
+    let file = match files {
+        [] => None,
+        [file] => Some(file.as_str()),
+        _ => return usage(),
+    };
+    let made = match command.as_str() {
+        "listing" => make_listing(file),
+        "sheet" => make_sheet(file),
+        "text" => make_text(file),
+        _ => return usage(),
     };
     match made.and_then(|bytes| print(&bytes)) {
         Ok(()) => ExitCode::SUCCESS,
         Err(message) => {
-            eprintln!("{message}");
+            eprintln!("peer: {message}");
             ExitCode::FAILURE
         }
     }
 }
 
+fn usage() -> ExitCode {
+    eprintln!("{USAGE}");
+    ExitCode::from(2)
+}
+
 fn make_listing(file: Option<&str>) -> Result<Vec<u8>, String> {
     Ok(listing(&read_sheet(file)?).into_bytes())
+}
+
+fn make_sheet(file: Option<&str>) -> Result<Vec<u8>, String> {
+    let bytes = read_at_most(file, u64::MAX)?;
+    text::to_sheet(&String::from_utf8_lossy(&bytes)).map_err(|error| format!("{}: {error}", name(file)))
+}
+
+fn make_text(file: Option<&str>) -> Result<Vec<u8>, String> {
+    let made = text::of_sheet(&read_sheet(file)?).map_err(|cause| refused(file, cause))?;
+    Ok(made.into_bytes())
+}
+
+fn refused(file: Option<&str>, cause: peer::line::Cause) -> String {
+    format!("{}: refused {}: {}", name(file), cause.number(), cause.words())
+}
+
+fn name(file: Option<&str>) -> &str {
+    file.unwrap_or("standard input")
 }
 
 /// A sheet's bytes. Of a longer file only one byte too many is read, which is refused all the same.
@@ -39,12 +70,12 @@ fn read_sheet(file: Option<&str>) -> Result<Vec<u8>, String> {
 fn read_at_most(file: Option<&str>, most: u64) -> Result<Vec<u8>, String> {
     let mut bytes = Vec::new();
     let read = match file {
-        Some(name) => std::fs::File::open(name).and_then(|file| file.take(most).read_to_end(&mut bytes)),
+        Some(path) => std::fs::File::open(path).and_then(|file| file.take(most).read_to_end(&mut bytes)),
         None => io::stdin().lock().take(most).read_to_end(&mut bytes),
     };
     match read {
         Ok(_) => Ok(bytes),
-        Err(error) => Err(format!("{}: {error}", file.unwrap_or("standard input"))),
+        Err(error) => Err(format!("{}: {error}", name(file))),
     }
 }
 
