@@ -3,13 +3,16 @@
 use std::io::{self, Read, Write};
 use std::process::ExitCode;
 
-use peer::listing::listing;
+use peer::draw::draw;
+use peer::line::Cause;
+use peer::listing::{listing, run};
 use peer::{sheet, text};
 
 const USAGE: &str = "\
 usage: peer listing [SHEET]    the listing of a run sheet
        peer sheet [TEXT]       the run sheet that a text stands for
        peer text [SHEET]       a run sheet as text, in the normal form
+       peer draw [SHEET]       a drawing of the run, as SVG
 A file that isn't named is read from standard input. What is made goes to standard output.";
 
 fn main() -> ExitCode {
@@ -24,6 +27,7 @@ fn main() -> ExitCode {
         "listing" => make_listing(file),
         "sheet" => make_sheet(file),
         "text" => make_text(file),
+        "draw" => make_drawing(file),
         _ => return usage(),
     };
     match made.and_then(|bytes| print(&bytes)) {
@@ -54,7 +58,12 @@ fn make_text(file: Option<&str>) -> Result<Vec<u8>, String> {
     Ok(made.into_bytes())
 }
 
-fn refused(file: Option<&str>, cause: peer::line::Cause) -> String {
+fn make_drawing(file: Option<&str>) -> Result<Vec<u8>, String> {
+    let run = run(&read_sheet(file)?).map_err(|cause| refused(file, cause))?;
+    Ok(draw(&run).into_bytes())
+}
+
+fn refused(file: Option<&str>, cause: Cause) -> String {
     format!("{}: refused {}: {}", name(file), cause.number(), cause.words())
 }
 

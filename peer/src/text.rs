@@ -88,7 +88,7 @@ impl Entry<'_> {
     }
 
     /// The words of a record's line after each of its four parts' words.
-    fn parts<'b>(&'b self) -> Result<[&'b [&'b str]; 4], Error> {
+    fn parts(&self) -> Result<[&[&str]; 4], Error> {
         let end = |words: &[&str]| words.iter().position(|word| PARTS.contains(word)).unwrap_or(words.len());
         let (mut rest, mut parts) = (&self.rest[..], [&[][..]; 4]);
         (parts[0], rest) = rest.split_at(end(rest));
@@ -256,7 +256,7 @@ pub fn to_sheet(text: &str) -> Result<Vec<u8>, Error> {
 }
 
 /// Ascending numbers, three or more in a row as a range.
-fn list_text(numbers: &[u8]) -> String {
+pub fn list_text(numbers: &[u8]) -> String {
     let in_a_row = |&a: &u8, &b: &u8| a + 1 == b;
     let ranges = numbers.chunk_by(in_a_row).flat_map(|row| match row {
         [low, .., high] if row.len() > 2 => vec![format!("{low}-{high}")],
@@ -265,7 +265,7 @@ fn list_text(numbers: &[u8]) -> String {
     ranges.collect::<Vec<_>>().join(" ")
 }
 
-fn ballot_text(ballot: u8) -> String {
+pub fn ballot_text(ballot: u8) -> String {
     match ballot {
         BLANK => "blank".to_string(),
         SILENCE => "silence".to_string(),
