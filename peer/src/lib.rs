@@ -3,6 +3,8 @@
 //! It shares no code and no table with the crates, so that the two can be compared byte for byte.
 //! Stations and rounds are numbered from 1, as in the document. T is called `upper`.
 
+#![deny(unsafe_code)]
+
 pub mod draw;
 pub mod exchange;
 pub mod line;

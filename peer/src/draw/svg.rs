@@ -82,7 +82,8 @@ impl Svg {
         let Font { size, bold, anchor } = font;
         let weight = if bold { "bold" } else { "normal" };
         self.put(format_args!(
-            "<text x=\"{x}\" y=\"{y}\" font-size=\"{size}\" font-weight=\"{weight}\" text-anchor=\"{anchor}\">{words}</text>"
+            "<text x=\"{x}\" y=\"{y}\" font-size=\"{size}\" font-weight=\"{weight}\" \
+             text-anchor=\"{anchor}\">{words}</text>"
         ));
     }
 
