@@ -21,7 +21,8 @@ int main(void)
     }
     for (uint8_t i = 1; i <= 3; i++) {
         uint64_t end = vembopu_result(4, 1, 1, 1, i, state[i]);
-        printf("station %d: value %d, grade %d, flag %d\n", i, vembopu_value(end), vembopu_grade(end), vembopu_flag(end));
+        printf("station %d: value %d, grade %d, flag %d\n", i, vembopu_value(end),
+               vembopu_grade(end), vembopu_flag(end));
     }
     return 0;
 }
