@@ -1,0 +1,78 @@
+/* Counting, drawing and guarded rows, shared by the test programs. */
+#ifndef CHECK_H
+#define CHECK_H
+
+#include <stdarg.h>
+#include <stdint.h>
+#include <stdio.h>
+#include <stdlib.h>
+#include <sys/mman.h>
+#include <unistd.h>
+
+enum { MOST_TOLD = 20 };
+
+static unsigned long passed, failed;
+
+/* Counts one test; says what failed, the first few times. */
+static inline int check(int ok, const char *what, ...)
+{
+    if (ok) {
+        passed++;
+        return 1;
+    }
+    failed++;
+    if (failed <= MOST_TOLD) {
+        va_list args;
+        va_start(args, what);
+        printf("FAILED: ");
+        vprintf(what, args);
+        printf("\n");
+        va_end(args);
+    }
+    return 0;
+}
+
+/* The last line; the exit status of the program. */
+static inline int closing_count(void)
+{
+    printf("%lu passed, %lu failed\n", passed, failed);
+    return failed == 0 ? 0 : 1;
+}
+
+/* The same numbers in every run: an xorshift of 64 bits. */
+static inline uint32_t draw_word(void)
+{
+    static uint64_t x = 88172645463325252u;
+    x ^= x << 13;
+    x ^= x >> 7;
+    x ^= x << 17;
+    return (uint32_t)(x >> 32);
+}
+
+/* One of 0 to below - 1. */
+static inline uint32_t draw(uint32_t below)
+{
+    return draw_word() % below;
+}
+
+/* A page between two that can't be touched. A row is laid at its very start or
+   very end, so that a byte read beside it ends the process. */
+struct guarded {
+    uint8_t *page;
+    size_t size;
+};
+
+static inline struct guarded guarded_page(void)
+{
+    struct guarded g;
+    g.size = (size_t)sysconf(_SC_PAGESIZE);
+    g.page = mmap(NULL, 3 * g.size, PROT_NONE, MAP_PRIVATE | MAP_ANONYMOUS, -1, 0);
+    if (g.page == MAP_FAILED || mprotect(g.page + g.size, g.size, PROT_READ | PROT_WRITE) != 0) {
+        perror("guarded page");
+        exit(2);
+    }
+    g.page += g.size;
+    return g;
+}
+
+#endif

@@ -1,0 +1,185 @@
+/*
+ * The four calls written once more, in C from document 01, for the tests: the
+ * judgement, and the steps of a station that is accepted. Shares nothing with
+ * the library.
+ */
+#ifndef MODEL_H
+#define MODEL_H
+
+#include <stddef.h>
+#include <stdint.h>
+
+/* What a call is handed; open looks at value, the others at the state, advance
+   at the row too. */
+struct call {
+    int n, t, T, sender, own;
+    int value;
+    int round, x, z, grade;
+    const uint8_t *row;
+    size_t row_len;
+};
+
+static inline uint32_t bytes4(int a, int b, int c, int d)
+{
+    return (uint32_t)a | (uint32_t)b << 8 | (uint32_t)c << 16 | (uint32_t)d << 24;
+}
+
+static inline uint32_t state_bits(const struct call *c)
+{
+    return bytes4(c->round, c->x, c->z, c->grade);
+}
+
+static inline uint64_t answer(int refusal, uint32_t values)
+{
+    return (uint64_t)refusal << 32 | values;
+}
+
+static inline int rounds(int t)
+{
+    return 3 * t + 6;
+}
+
+/* ---- "Refused causes", the lowest number first ---- */
+
+/* 2, 3 and 4: of every call. */
+static inline int judge_numbers(const struct call *c)
+{
+    if (c->n < 1 || c->n > 32)
+        return 2;
+    if (c->t > c->T || c->t + 2 * c->T >= c->n)
+        return 3;
+    if (c->sender < 1 || c->sender > c->n || c->own < 1 || c->own > c->n)
+        return 4;
+    return 0;
+}
+
+static inline int judge_open(const struct call *c)
+{
+    int number = judge_numbers(c);
+    if (number == 0 && c->value != 0 && c->value != 1)
+        return 5;
+    return number;
+}
+
+static inline int judge_result(const struct call *c)
+{
+    int number = judge_numbers(c);
+    if (number != 0)
+        return number;
+    if (c->round < 1 || c->round > rounds(c->t) + 1)
+        return 7;
+    if (c->x > 1 || c->z > 2 || c->grade > 2)
+        return 7;
+    return 0;
+}
+
+static inline int judge_ballot(const struct call *c)
+{
+    int number = judge_result(c);
+    if (number == 0 && c->round == rounds(c->t) + 1)
+        return 7;
+    return number;
+}
+
+static inline int judge_advance(const struct call *c)
+{
+    int number = judge_ballot(c);
+    if (number == 0 && c->row_len != (size_t)c->n)
+        return 8;
+    return number;
+}
+
+/* ---- "The graded exchange" and "The broadcast" ---- */
+
+/* The king of round 3p+1, 0 in a round that isn't a king's. */
+static inline int king_of(int round)
+{
+    return round > 1 && round % 3 == 1 ? (round - 1) / 3 : 0;
+}
+
+/* "a byte other than 0 or 1 is read as 0" */
+static inline int bit_or_0(uint8_t byte)
+{
+    return byte == 1 ? 1 : 0;
+}
+
+static inline int ballot_of(const struct call *c)
+{
+    if (c->round == 1)
+        return c->own == c->sender ? c->x : 255;
+    if (king_of(c->round) != 0)
+        return c->own == king_of(c->round) ? c->x : 255;
+    return c->round % 3 == 2 ? c->x : c->z;
+}
+
+/* Steps 1 and 2: z. */
+static inline void first_row(struct call *c)
+{
+    int same = 0;
+    for (int i = 0; i < c->n; i++)
+        if (bit_or_0(c->row[i]) == c->x)
+            same++;
+    c->z = same >= c->n - c->T ? c->x : 2;
+}
+
+/* Steps 3 to 5: y and the grade. */
+static inline void second_row(struct call *c)
+{
+    int zeros = 0, ones = 0;
+    for (int i = 0; i < c->n; i++) {
+        zeros += c->row[i] == 0;
+        ones += c->row[i] == 1;
+    }
+    c->x = zeros > ones ? 0 : 1;
+    int count = c->x == 0 ? zeros : ones;
+    c->grade = count >= c->n - c->t ? 2 : count >= c->n - c->T ? 1 : 0;
+}
+
+/* What a row doesn't set stays. */
+static inline void take_row(struct call *c)
+{
+    if (c->round == 1)
+        c->x = bit_or_0(c->row[c->sender - 1]);
+    else if (c->round % 3 == 2)
+        first_row(c);
+    else if (c->round % 3 == 0)
+        second_row(c);
+    else if (c->grade == 0)
+        c->x = bit_or_0(c->row[king_of(c->round) - 1]);
+    c->round++;
+}
+
+/* ---- The answers ---- */
+
+static inline uint64_t model_open(const struct call *c)
+{
+    int number = judge_open(c);
+    return answer(number, number ? 0 : bytes4(1, c->value, 2, 0));
+}
+
+static inline uint64_t model_ballot(const struct call *c)
+{
+    int number = judge_ballot(c);
+    return answer(number, number ? 0 : (uint32_t)ballot_of(c));
+}
+
+static inline uint64_t model_advance(const struct call *c)
+{
+    struct call next = *c;
+    int number = judge_advance(c);
+    if (number == 0)
+        take_row(&next);
+    return answer(number, state_bits(&next));
+}
+
+static inline uint64_t model_result(const struct call *c)
+{
+    int number = judge_result(c);
+    if (number != 0)
+        return answer(number, 0);
+    if (c->round <= rounds(c->t))
+        return answer(0, bytes4(0, c->round, 0, 0));
+    return answer(0, bytes4(1, c->x, c->grade, c->grade < 2));
+}
+
+#endif

@@ -1,0 +1,429 @@
+/*
+ * Every refusal of the station's calls through C, alone and in pairs; calls at
+ * the edges and by lot against document 01 written once more (model.h); rows
+ * between pages that can't be touched.
+ */
+#define _DEFAULT_SOURCE
+#include "check.h"
+#include "model.h"
+#include "vembopu.h"
+
+#include <string.h>
+
+enum { OPEN = 1, BALLOT = 2, ADVANCE = 4, RESULT = 8, ALL = 15 };
+enum { CALLS = 4, LONGEST_ROW = 300, BLOCK = 10000, BLOCKS = 10, NUMBERS = 14 };
+
+static const char *const call_name[CALLS] = {"open", "ballot", "advance", "result"};
+static uint8_t some_row[LONGEST_ROW];
+
+/* ---- The calls, by their bit ---- */
+
+static uint64_t library(int which, const struct call *c)
+{
+    uint8_t n = (uint8_t)c->n, t = (uint8_t)c->t, T = (uint8_t)c->T;
+    uint8_t sender = (uint8_t)c->sender, own = (uint8_t)c->own;
+    switch (which) {
+    case OPEN:
+        return vembopu_open(n, t, T, sender, own, (uint8_t)c->value);
+    case BALLOT:
+        return vembopu_ballot(n, t, T, sender, own, state_bits(c));
+    case ADVANCE:
+        return vembopu_advance(n, t, T, sender, own, state_bits(c), c->row, c->row_len);
+    default:
+        return vembopu_result(n, t, T, sender, own, state_bits(c));
+    }
+}
+
+static uint64_t model(int which, const struct call *c)
+{
+    switch (which) {
+    case OPEN:
+        return model_open(c);
+    case BALLOT:
+        return model_ballot(c);
+    case ADVANCE:
+        return model_advance(c);
+    default:
+        return model_result(c);
+    }
+}
+
+/* 1 if the library answers as the model; says the first few that differ. */
+static int agrees(int call, const struct call *c)
+{
+    static int told;
+    uint64_t got = library(1 << call, c), want = model(1 << call, c);
+    if (got == want)
+        return 1;
+    if (told++ < MOST_TOLD)
+        printf("%s n %d t %d T %d sender %d own %d value %d state %08lx row of %lu: %llx, not %llx\n",
+               call_name[call], c->n, c->t, c->T, c->sender, c->own, c->value,
+               (unsigned long)state_bits(c), (unsigned long)c->row_len,
+               (unsigned long long)got, (unsigned long long)want);
+    return 0;
+}
+
+/* ---- Each cause, and each pair ---- */
+
+/* The byte above; 255 + 1 is 0. */
+static int after(int byte)
+{
+    return (byte + 1) & 255;
+}
+
+#define FAULT(name, statement)          \
+    static void name(struct call *c)    \
+    {                                   \
+        statement;                      \
+    }
+
+FAULT(n_0, c->n = 0)
+FAULT(n_33, c->n = 33)
+FAULT(n_255, c->n = 255)
+FAULT(t_above, c->t = after(c->T))
+FAULT(t_255, c->t = 255)
+FAULT(sum_is_n, c->t = c->n % 2; c->T = c->n / 2)
+FAULT(sum_256, c->t = 2; c->T = 127)
+FAULT(sum_512, c->t = 170; c->T = 171)
+FAULT(sender_0, c->sender = 0)
+FAULT(sender_above, c->sender = after(c->n))
+FAULT(sender_255, c->sender = 255)
+FAULT(own_0, c->own = 0)
+FAULT(own_above, c->own = after(c->n))
+FAULT(own_255, c->own = 255)
+FAULT(value_2, c->value = 2)
+FAULT(value_255, c->value = 255)
+FAULT(round_0, c->round = 0)
+FAULT(round_above, c->round = (rounds(c->t) + 2) & 255)
+FAULT(round_255, c->round = 255)
+FAULT(x_2, c->x = 2)
+FAULT(x_255, c->x = 255)
+FAULT(z_3, c->z = 3)
+FAULT(z_255, c->z = 255)
+FAULT(grade_3, c->grade = 3)
+FAULT(grade_255, c->grade = 255)
+FAULT(is_done, c->round = (rounds(c->t) + 1) & 255)
+FAULT(row_short, c->row_len = c->n > 0 ? (size_t)c->n - 1 : 1)
+FAULT(row_long, c->row_len = (size_t)c->n + 1)
+FAULT(row_null, c->row = NULL; c->row_len = 0)
+
+struct fault {
+    const char *what;
+    int number;
+    int calls;
+    void (*make)(struct call *);
+};
+
+static const struct fault faults[] = {
+    {"n 0", 2, ALL, n_0},
+    {"n 33", 2, ALL, n_33},
+    {"n 255", 2, ALL, n_255},
+    {"t above T", 3, ALL, t_above},
+    {"t 255", 3, ALL, t_255},
+    {"t + 2T = n", 3, ALL, sum_is_n},
+    {"t + 2T = 256", 3, ALL, sum_256},
+    {"t + 2T = 512", 3, ALL, sum_512},
+    {"sender 0", 4, ALL, sender_0},
+    {"sender n+1", 4, ALL, sender_above},
+    {"sender 255", 4, ALL, sender_255},
+    {"own 0", 4, ALL, own_0},
+    {"own n+1", 4, ALL, own_above},
+    {"own 255", 4, ALL, own_255},
+    {"value 2", 5, OPEN, value_2},
+    {"value 255", 5, OPEN, value_255},
+    {"round 0", 7, BALLOT | ADVANCE | RESULT, round_0},
+    {"round R+2", 7, BALLOT | ADVANCE | RESULT, round_above},
+    {"round 255", 7, BALLOT | ADVANCE | RESULT, round_255},
+    {"state value 2", 7, BALLOT | ADVANCE | RESULT, x_2},
+    {"state value 255", 7, BALLOT | ADVANCE | RESULT, x_255},
+    {"z 3", 7, BALLOT | ADVANCE | RESULT, z_3},
+    {"z 255", 7, BALLOT | ADVANCE | RESULT, z_255},
+    {"grade 3", 7, BALLOT | ADVANCE | RESULT, grade_3},
+    {"grade 255", 7, BALLOT | ADVANCE | RESULT, grade_255},
+    {"done", 7, BALLOT | ADVANCE, is_done},
+    {"row of n-1", 8, ADVANCE, row_short},
+    {"row of n+1", 8, ADVANCE, row_long},
+    {"row NULL", 8, ADVANCE, row_null},
+};
+
+enum { FAULTS = sizeof faults / sizeof faults[0] };
+
+/* A refused call gives nothing, advance the state that it was handed. */
+static void refused(int call, const struct call *c, int number, const char *one, const char *two)
+{
+    uint32_t left = 1 << call == ADVANCE ? state_bits(c) : 0;
+    uint64_t got = library(1 << call, c);
+    check(got == answer(number, left), "%s, n %d, %s, %s: %llx, not refusal %d", call_name[call],
+          c->n, one, two, (unsigned long long)got, number);
+}
+
+static void faults_of(int call, const struct call *base)
+{
+    for (int a = 0; a < FAULTS; a++) {
+        if (!(faults[a].calls & 1 << call))
+            continue;
+        struct call one = *base;
+        faults[a].make(&one);
+        refused(call, &one, faults[a].number, faults[a].what, "alone");
+        for (int b = a + 1; b < FAULTS; b++) {
+            if (!(faults[b].calls & 1 << call))
+                continue;
+            struct call two = one;
+            faults[b].make(&two);
+            refused(call, &two, faults[a].number, faults[a].what, faults[b].what);
+        }
+    }
+}
+
+/* Any row and length will do with the lines that faults are laid into. */
+static struct call accepted(int n, int t, int T)
+{
+    struct call c = {n, t, T, n, 1, 1, rounds(t), 1, 2, 2, some_row, (size_t)n};
+    return c;
+}
+
+static void all_faults(void)
+{
+    static const int lines[][3] = {{1, 0, 0}, {4, 1, 1}, {7, 0, 3}, {32, 10, 10}, {32, 0, 15}};
+    for (size_t i = 0; i < sizeof lines / sizeof lines[0]; i++) {
+        struct call base = accepted(lines[i][0], lines[i][1], lines[i][2]);
+        for (int call = 0; call < CALLS; call++) {
+            check(vembopu_refusal(library(1 << call, &base)) == 0, "%s, n %d: refused",
+                  call_name[call], base.n);
+            faults_of(call, &base);
+        }
+    }
+}
+
+/* ---- Document 01's cases of thresholds, E and F ---- */
+
+static void cases(void)
+{
+    static const int rows[][4] = {{32, 10, 10, 0}, {32, 11, 11, 3}, {32, 0, 15, 0}, {32, 0, 16, 3},
+                                  {3, 1, 1, 3},    {4, 1, 1, 0},    {0, 0, 0, 2},   {33, 0, 0, 2}};
+    for (size_t i = 0; i < sizeof rows / sizeof rows[0]; i++) {
+        uint64_t got = vembopu_open((uint8_t)rows[i][0], (uint8_t)rows[i][1], (uint8_t)rows[i][2], 1, 1, 0);
+        check(vembopu_refusal(got) == (uint32_t)rows[i][3], "n %d t %d T %d: %u, not %d", rows[i][0],
+              rows[i][1], rows[i][2], vembopu_refusal(got), rows[i][3]);
+    }
+}
+
+/* ---- At the edges, all of them with all of them ---- */
+
+/* Every edge of the state and of the row, for one set of the five numbers. */
+static unsigned long long edge_states(struct call *c, unsigned long long *differ)
+{
+    int R = rounds(c->t);
+    const int edge[] = {0, 1, R, R + 1, R + 2, 255};
+    unsigned long long tried = 0;
+    for (int i = 0; i < 6 * 2 * 2 * 2 * 2; i++) {
+        c->round = edge[i % 6] & 255;
+        c->x = 1 + i / 6 % 2;
+        c->z = 2 + i / 12 % 2;
+        c->grade = 2 + i / 24 % 2;
+        c->row_len = (size_t)c->n + (size_t)(i / 48 % 2);
+        for (int call = 1; call < CALLS; call++, tried++)
+            *differ += !agrees(call, c);
+    }
+    return tried;
+}
+
+static void edges_of(int n)
+{
+    static const int threshold[] = {0, 1, 2, 10, 11, 15, 16, 127, 128, 255};
+    static const int value[] = {0, 1, 2, 255};
+    const int number[] = {0, 1, n, after(n)};
+    unsigned long long tried = 0, differ = 0;
+    for (int i = 0; i < 10 * 10 * 4 * 4; i++) {
+        struct call c = {n, threshold[i % 10], threshold[i / 10 % 10], number[i / 100 % 4],
+                         number[i / 400], 0, 0, 0, 0, 0, some_row, 0};
+        for (int v = 0; v < 4; v++, tried++) {
+            c.value = value[v];
+            differ += !agrees(0, &c);
+        }
+        tried += edge_states(&c, &differ);
+    }
+    check(differ == 0, "at the edges of n %d: %llu of %llu differ", n, differ, tried);
+}
+
+static void edges(void)
+{
+    static const int ns[] = {0, 1, 2, 3, 4, 31, 32, 33, 255};
+    for (size_t i = 0; i < sizeof ns / sizeof ns[0]; i++)
+        edges_of(ns[i]);
+}
+
+/* ---- By lot ---- */
+
+static unsigned long met[CALLS][NUMBERS];
+
+/* Mostly an accepted line; else any bytes. */
+static void draw_line(struct call *c)
+{
+    c->n = (int)draw(36);
+    if (draw(16) == 0) {
+        c->t = (int)draw(256);
+        c->T = (int)draw(256);
+    } else {
+        c->T = (int)draw((uint32_t)c->n / 2 + 1);
+        c->t = (int)draw((uint32_t)c->T + 1);
+    }
+    c->sender = draw(16) == 0 ? (int)draw(256) : 1 + (int)draw((uint32_t)c->n + 1);
+    c->own = draw(16) == 0 ? (int)draw(256) : 1 + (int)draw((uint32_t)c->n + 1);
+    c->value = draw(8) == 0 ? (int)draw(256) : (int)draw(3);
+}
+
+/* Any 32 bits, or bytes near the edges. */
+static void draw_state(struct call *c)
+{
+    uint32_t any = draw_word();
+    int near_edges = draw(4) != 0;
+    c->round = near_edges ? (int)draw((uint32_t)rounds(c->t) + 3) & 255 : (int)(any & 255);
+    c->x = near_edges ? (int)draw(9) / 4 : (int)(any >> 8 & 255);
+    c->z = near_edges ? (int)draw(10) / 3 : (int)(any >> 16 & 255);
+    c->grade = near_edges ? (int)draw(10) / 3 : (int)(any >> 24);
+}
+
+static void draw_row(struct call *c, uint8_t *row)
+{
+    static const uint8_t ballot[] = {0, 1, 2, 255};
+    uint32_t kind = draw(4);
+    for (int i = 0; i < 64; i++)
+        row[i] = kind == 0 ? (uint8_t)draw(256) : ballot[draw(1 + kind)];
+    c->row = row;
+    c->row_len = draw(8) == 0 ? draw(64) : (size_t)c->n;
+}
+
+static void block(void)
+{
+    unsigned long differ[CALLS] = {0};
+    uint8_t row[64];
+    for (int i = 0; i < BLOCK; i++) {
+        struct call c;
+        draw_line(&c);
+        draw_state(&c);
+        draw_row(&c, row);
+        for (int call = 0; call < CALLS; call++) {
+            differ[call] += !agrees(call, &c);
+            met[call][vembopu_refusal(library(1 << call, &c)) % NUMBERS]++;
+        }
+    }
+    for (int call = 0; call < CALLS; call++)
+        check(differ[call] == 0, "%s by lot: %lu differ", call_name[call], differ[call]);
+}
+
+/* Each number that a call can give was met, and no other. */
+static void all_met(void)
+{
+    static const char *const can[CALLS] = {"0 2 3 4 5", "0 2 3 4 7", "0 2 3 4 7 8", "0 2 3 4 7"};
+    for (int call = 0; call < CALLS; call++) {
+        char line[256] = "", list[64] = "";
+        for (int k = 0; k < NUMBERS; k++) {
+            if (met[call][k] == 0)
+                continue;
+            sprintf(list + strlen(list), "%s%d", *list ? " " : "", k);
+            sprintf(line + strlen(line), "  %d: %lu", k, met[call][k]);
+        }
+        printf("%s by lot, answers by number:%s\n", call_name[call], line);
+        check(strcmp(list, can[call]) == 0, "%s by lot: numbers %s, not %s", call_name[call], list, can[call]);
+    }
+}
+
+static void by_lot(void)
+{
+    for (int i = 0; i < BLOCKS; i++)
+        block();
+    all_met();
+}
+
+/* ---- Rows at the edges of a page that can only be read ---- */
+
+static void guarded_rows(int n, struct guarded g)
+{
+    struct call c = accepted(n, (n - 1) / 3, (n - 1) / 3);
+    unsigned long differ = 0;
+    mprotect(g.page, g.size, PROT_READ | PROT_WRITE);
+    for (size_t i = 0; i < g.size; i++)
+        g.page[i] = (uint8_t)draw(4);
+    mprotect(g.page, g.size, PROT_READ);
+    for (int round = 1; round <= rounds(c.t); round++) {
+        c.round = round;
+        c.grade = round % 2 * 2;
+        c.row = g.page;
+        differ += !agrees(2, &c);
+        c.row = g.page + g.size - n;
+        differ += !agrees(2, &c);
+    }
+    check(differ == 0, "rows of %d at the edges of a page: %lu differ", n, differ);
+}
+
+/* ---- A station with refused rows between ---- */
+
+static uint32_t try_bad_rows(uint8_t n, uint8_t t, uint32_t state, uint32_t number)
+{
+    const size_t length[] = {0, (size_t)n - 1, (size_t)n + 1};
+    for (int i = 0; i < 3; i++) {
+        uint64_t got = vembopu_advance(n, t, t, 1, n, state, i == 0 ? NULL : some_row, length[i]);
+        check(vembopu_refusal(got) == number && vembopu_state(got) == state,
+              "n %d, a row of %lu: %llx", n, (unsigned long)length[i], (unsigned long long)got);
+        state = vembopu_state(got);
+    }
+    return state;
+}
+
+static void whole_station(uint8_t n)
+{
+    uint8_t t = (uint8_t)((n - 1) / 3);
+    int taken = 0, R = rounds(t);
+    uint32_t state = vembopu_state(vembopu_open(n, t, t, 1, n, 1));
+    uint64_t result = vembopu_result(n, t, t, 1, n, state);
+    while (vembopu_running(result) && taken <= R) {
+        check(vembopu_round(result) == taken + 1, "n %d: round %d", n, vembopu_round(result));
+        state = try_bad_rows(n, t, state, 8);
+        state = vembopu_state(vembopu_advance(n, t, t, 1, n, state, some_row, n));
+        taken++;
+        result = vembopu_result(n, t, t, 1, n, state);
+    }
+    check(vembopu_done(result) && taken == R, "n %d: done after %d rows, not %d", n, taken, R);
+    check(vembopu_refusal(vembopu_ballot(n, t, t, 1, n, state)) == 7, "n %d: a done station's ballot", n);
+    uint64_t more = vembopu_advance(n, t, t, 1, n, state, some_row, n);
+    check(more == answer(7, state), "n %d: a done station's row: %llx", n, (unsigned long long)more);
+    try_bad_rows(n, t, state, 7);
+    check(vembopu_result(n, t, t, 1, n, state) == result, "n %d: another result", n);
+}
+
+/* ---- */
+
+static void part(const char *what, void (*run)(void))
+{
+    unsigned long before = passed + failed;
+    run();
+    printf("%s: %lu tests\n", what, passed + failed - before);
+    fflush(stdout);
+}
+
+static void all_guarded_rows(void)
+{
+    struct guarded g = guarded_page();
+    for (int n = 1; n <= 32; n++)
+        guarded_rows(n, g);
+}
+
+static void whole_stations(void)
+{
+    for (int n = 1; n <= 32; n++)
+        whole_station((uint8_t)n);
+}
+
+int main(void)
+{
+    for (int i = 0; i < LONGEST_ROW; i++)
+        some_row[i] = (uint8_t)draw(3);
+    part("causes alone and in pairs", all_faults);
+    part("thresholds of cases E, F and H", cases);
+    part("calls at the edges", edges);
+    part("calls by lot", by_lot);
+    part("rows at the edges of a page", all_guarded_rows);
+    part("stations with refused rows between", whole_stations);
+    return closing_count();
+}

@@ -1,0 +1,177 @@
+/*
+ * One station of a line, for the controller of a bonder.
+ *
+ * A station needs no memory of its own. The controller keeps the five numbers
+ * that the station was opened with, and its state of 32 bits, which it takes
+ * from one answer and hands to the next call:
+ *
+ *     open, then for each round: ballot, send it, receive a row, advance;
+ *     when result says done: value, grade and flag.
+ *
+ * The five numbers, the same in every call for one station:
+ *
+ *     n        stations on the line, 1 to 32
+ *     t, T     thresholds, t at most T, t + 2T below n
+ *     sender   number of the station whose value is broadcast, 1 to n
+ *     own      number of this station, 1 to n
+ *
+ * Any content may be handed in: what is not allowed is refused, by number, and
+ * nothing else happens. A call reads nothing but its arguments, for a row the
+ * row_len bytes at row; it writes nothing, calls nothing, keeps nothing, and
+ * the same arguments always give the same answer. So any number of stations
+ * may run in one process, and in any threads.
+ */
+#ifndef VEMBOPU_H
+#define VEMBOPU_H
+
+#include <stddef.h>
+#include <stdint.h>
+
+#ifdef __cplusplus
+extern "C" {
+#endif
+
+/* Ballot bytes other than 0 and 1. Every other byte is garbled. */
+enum {
+    VEMBOPU_BLANK = 2,
+    VEMBOPU_SILENCE = 255
+};
+
+/* Why a call is refused. Where several causes hold, the lowest is given. */
+enum {
+    VEMBOPU_ACCEPTED = 0,
+    VEMBOPU_BAD_N = 2,          /* n outside 1 to 32 */
+    VEMBOPU_BAD_THRESHOLDS = 3, /* t above T, or t + 2T not below n */
+    VEMBOPU_BAD_NUMBER = 4,     /* sender or own outside 1 to n */
+    VEMBOPU_BAD_VALUE = 5,      /* value not 0 or 1 */
+    VEMBOPU_BAD_STATE = 7,      /* a state that no station has, or a ballot or
+                                   row wanted of a done station */
+    VEMBOPU_BAD_ROW = 8         /* row_len is not n */
+};
+
+/*
+ * Every call answers with 64 bits: the refusal number, 0 if accepted, in the
+ * upper 32; what the call gives in the lower 32. Take it apart with the
+ * helpers at the end of this file.
+ */
+
+/*
+ * A station before round 1.
+ *
+ * value    the bit to broadcast, 0 keeps the old recipe, 1 changes over. It
+ *          matters only at the sender, and has to be 0 or 1 at every station.
+ *
+ * Gives the state. Refused: 2, 3, 4, 5; the lower 32 bits are then 0.
+ */
+uint64_t vembopu_open(uint8_t n, uint8_t t, uint8_t T, uint8_t sender,
+                      uint8_t own, uint8_t value);
+
+/*
+ * The ballot for the current round, to be sent to all stations, itself
+ * included: 0, 1, or 2 (blank); 255 if the station doesn't speak.
+ *
+ * state    from the last accepted open or advance of this station. Any 32 bits
+ *          may be handed in. Lowest byte first they are round, value, z and
+ *          grade. With R = 3t + 6, a round outside 1 to R + 1, a value above
+ *          1, a z or a grade above 2 is refused by 7. The round of a done
+ *          station is R + 1, and this call refuses that by 7 as well.
+ *
+ * Gives the ballot. Refused: 2, 3, 4, 7; the lower 32 bits are then 0.
+ */
+uint64_t vembopu_ballot(uint8_t n, uint8_t t, uint8_t T, uint8_t sender,
+                        uint8_t own, uint32_t state);
+
+/*
+ * The station after the row that it received in the current round.
+ *
+ * state    as for vembopu_ballot, a done station refused by 7 as well.
+ * row      row[i - 1] is the byte received from station i, the own ballot at
+ *          row[own - 1]; 255 where nothing came. Any byte may stand there: in
+ *          the second round of an exchange one other than 0 or 1 is read as
+ *          blank, in every other round as 0. Only read, and only during the
+ *          call.
+ * row_len  the number of bytes at row. Any other number than n is refused by
+ *          8. row has to point to row_len bytes; it may be NULL only if
+ *          row_len is 0.
+ *
+ * Gives the new state, to be kept in place of the old one.
+ * Refused: 2, 3, 4, 7, 8; the lower 32 bits are then the state handed in, so
+ * that the station stays where it was and another row may be tried.
+ */
+uint64_t vembopu_advance(uint8_t n, uint8_t t, uint8_t T, uint8_t sender,
+                         uint8_t own, uint32_t state, const uint8_t *row,
+                         size_t row_len);
+
+/*
+ * The result: running, with the round; or, after exactly R = 3t + 6 accepted
+ * rows, done, with value, grade and flag.
+ *
+ * state    as for vembopu_ballot, but that a done station is accepted.
+ *
+ * Gives, lowest byte first: 0, round, 0, 0; or 1, value, grade, flag.
+ * Refused: 2, 3, 4, 7; the lower 32 bits are then 0.
+ */
+uint64_t vembopu_result(uint8_t n, uint8_t t, uint8_t T, uint8_t sender,
+                        uint8_t own, uint32_t state);
+
+/* ---- Taking an answer apart ---- */
+
+/* Of any call: the refusal number, 0 if accepted. Ask this first. */
+static inline uint32_t vembopu_refusal(uint64_t answer)
+{
+    return (uint32_t)(answer >> 32);
+}
+
+/* Of open, if accepted, and of advance: the state. */
+static inline uint32_t vembopu_state(uint64_t answer)
+{
+    return (uint32_t)(answer & 0xffffffffu);
+}
+
+/* Of an accepted ballot: the byte to send; 255 means send nothing. */
+static inline uint8_t vembopu_ballot_byte(uint64_t answer)
+{
+    return (uint8_t)(answer & 0xffu);
+}
+
+/* Of result: 1 if accepted and done, 0 if running or refused. */
+static inline int vembopu_done(uint64_t answer)
+{
+    return vembopu_refusal(answer) == 0 && (answer & 0xffu) == 1;
+}
+
+/* Of result: 1 if accepted and running, 0 if done or refused. */
+static inline int vembopu_running(uint64_t answer)
+{
+    return vembopu_refusal(answer) == 0 && (answer & 0xffu) == 0;
+}
+
+/* Of a result that is running: the current round, 1 to R. */
+static inline uint8_t vembopu_round(uint64_t answer)
+{
+    return (uint8_t)((answer >> 8) & 0xffu);
+}
+
+/* Of a result that is done: the bit that is decided, 0 or 1. */
+static inline uint8_t vembopu_value(uint64_t answer)
+{
+    return (uint8_t)((answer >> 8) & 0xffu);
+}
+
+/* Of a result that is done: the grade, 0 to 2. */
+static inline uint8_t vembopu_grade(uint64_t answer)
+{
+    return (uint8_t)((answer >> 16) & 0xffu);
+}
+
+/* Of a result that is done: the flag, 1 exactly if the grade is below 2. */
+static inline uint8_t vembopu_flag(uint64_t answer)
+{
+    return (uint8_t)((answer >> 24) & 0xffu);
+}
+
+#ifdef __cplusplus
+}
+#endif
+
+#endif

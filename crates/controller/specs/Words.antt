@@ -1,0 +1,93 @@
+-- A station and the answers of its calls as numbers, and what each call promises. What is answered is what the station's calls by value answer
+-- (crates/station/specs/Answers.antt): each case of their enums has its number and its values here.
+use Prim.Native.Nat.{ℕ, _+_, _*_, _/_, _%_}
+use mathlib.Core.Path.{_≡_}
+use mathlib.Core.List.{List}
+use lib.ListN.{length}
+use Rattle.broadcast.specs.Station.{ballot, advance, at}
+use Rattle.station.specs.declared.Station.{Station}
+use Rattle.station.specs.declared.Opened.{Opened}
+use Rattle.station.specs.declared.Opened.the-variants as opened
+use Rattle.station.specs.declared.Told.{Told}
+use Rattle.station.specs.declared.Told.the-variants as told
+use Rattle.station.specs.declared.Advanced.{Advanced}
+use Rattle.station.specs.declared.Advanced.the-variants as advanced
+use Rattle.station.specs.declared.Outcome.{Outcome}
+use Rattle.station.specs.declared.Outcome.the-variants as outcome
+use Rattle.station.specs.Judgement.{station-verdict, telling-verdict, taking-verdict, opening-verdict}
+use Rattle.station.specs.Automaton.{setup-of, state-of, in-state, opened-station, outcome-of}
+use Rattle.station.specs.Answers.{opened-by, opened-number, told-by, told-number, advanced-by, advanced-number, outcome-by, outcome-number}
+
+-- four bytes as one number, the lowest first
+abbrev pub word : ℕ → ℕ → ℕ → ℕ → ℕ
+word a b c d = a + 256 * b + 65536 * c + 16777216 * d
+
+-- a state: round, value, z, grade
+abbrev pub state-word : Station → ℕ
+state-word s = word (s .round) (s .value) (s .z) (s .grade)
+
+-- the station that C hands over: what it was opened with, and its state
+unfoldable pub station-of : ℕ → ℕ → ℕ → ℕ → ℕ → ℕ → Station
+station-of n t T sender own state = record {
+  n = n;
+  t = t;
+  upper = T;
+  sender = sender;
+  own = own;
+  round = state % 256;
+  value = state / 256 % 256;
+  z = state / 65536 % 256;
+  grade = state / 16777216 % 256;
+}
+
+-- an answer: document 01's number, 0 where nothing is refused, above the values
+abbrev pub answer-word : ℕ → ℕ → ℕ
+answer-word number values = 4294967296 * number + values
+
+-- ---- the values of each answer
+
+-- the new state; none where it is refused
+abbrev pub opened-word : Opened → ℕ
+opened-word (opened.Ready s) = state-word s
+opened-word (opened.Refused c) = 0
+
+-- the ballot
+abbrev pub told-word : Told → ℕ
+told-word (told.Ballot b) = b
+told-word (told.Refused c) = 0
+
+-- the next state; the state handed in where it is refused: "Left as it was: the station"
+abbrev pub advanced-word : ℕ → Advanced → ℕ
+advanced-word state (advanced.Next s) = state-word s
+advanced-word state (advanced.Refused c) = state
+
+-- 0 and the round while running, 1 and value, grade and flag when done
+abbrev pub outcome-word : Outcome → ℕ
+outcome-word (outcome.Running r) = word 0 r 0 0
+outcome-word (outcome.Done v g f) = word 1 v g f
+outcome-word (outcome.Refused c) = 0
+
+-- ---- the promises
+
+-- `vembopu_open`: what `station::open` answers
+pub record OpenAnswer (n t T sender own value r : ℕ) : Type 0 where
+  pub answer : let o = opened-by (opening-verdict n t T sender own value) (opened-station n t T sender own value) in
+      r ≡ answer-word (opened-number o) (opened-word o)
+
+-- `vembopu_ballot`: what `station::ballot` answers
+pub record BallotAnswer (n t T sender own state r : ℕ) : Type 0 where
+  pub answer : let s = station-of n t T sender own state in
+      let o = told-by (telling-verdict s) (ballot (setup-of s) (state-of s)) in
+      r ≡ answer-word (told-number o) (told-word o)
+
+-- `vembopu_advance`: what `station::advance` answers
+pub record AdvanceAnswer (n t T sender own state : ℕ) (row : List ℕ) (r : ℕ) : Type 0 where
+  pub answer : let s = station-of n t T sender own state in
+      let o = advanced-by (taking-verdict s (length row)) (in-state s (advance (setup-of s) (state-of s) (at row))) in
+      r ≡ answer-word (advanced-number o) (advanced-word state o)
+
+-- `vembopu_result`: what `station::result` answers
+pub record ResultAnswer (n t T sender own state r : ℕ) : Type 0 where
+  pub answer : let s = station-of n t T sender own state in
+      let o = outcome-by (station-verdict s) (outcome-of s) in
+      r ≡ answer-word (outcome-number o) (outcome-word o)

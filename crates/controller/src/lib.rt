@@ -1,0 +1,73 @@
+// The station for a bonder's controller in C: numbers, and the row's byte slice. C keeps the station's number of five bytes that it was opened with and
+// a state of 32 bits. Each answer is 64 bits: document 01's number of the refusal above, 0 where nothing is refused, and the values below.
+ghost use mathlib.Core.Path.{_≡_};
+ghost use Rattle.controller.specs.Words.{station-of, state-word, answer-word, opened-word, told-word, advanced-word, outcome-word};
+ghost use Rattle.controller.specs.Words.{OpenAnswer, BallotAnswer, AdvanceAnswer, ResultAnswer};
+use line::cause::Cause;
+use station::Advanced;
+use station::Opened;
+use station::Outcome;
+use station::Station;
+use station::Told;
+
+mod words;
+
+// A station before round 1: its state.
+#[no_mangle]
+pub extern "C" fn vembopu_open(n: u8, t: u8, upper: u8, sender: u8, own: u8, value: u8) -> u64
+    ensures { λ r. ⌜ OpenAnswer n t upper sender own value r ⌝ }
+{
+    let opened = station::open(n, t, upper, sender, own, value);
+    match opened {
+        Opened::Ready(s) => words::answer(0, words::state(s)),
+        Opened::Refused(c) => words::answer(c.number(), 0),
+    }
+}
+
+// The ballot for the current round, 255 if the station doesn't speak.
+#[no_mangle]
+pub extern "C" fn vembopu_ballot(n: u8, t: u8, upper: u8, sender: u8, own: u8, state: u32) -> u64
+    ensures { λ r. ⌜ BallotAnswer n t upper sender own state r ⌝ }
+{
+    let told = station::ballot(words::station(n, t, upper, sender, own, state));
+    match told {
+        Told::Ballot(b) => words::answer(0, b as u32),
+        Told::Refused(c) => words::answer(c.number(), 0),
+    }
+}
+
+// The state after the row received in the current round; the same state where it is refused.
+#[no_mangle]
+pub extern "C" fn vembopu_advance(
+    n: u8,
+    t: u8,
+    upper: u8,
+    sender: u8,
+    own: u8,
+    state: u32,
+    row: &[u8],
+) -> u64
+    ensures { λ r. ⌜ AdvanceAnswer n t upper sender own state (now (row .entry)) r ⌝ }
+{
+    let advanced = station::advance(words::station(n, t, upper, sender, own, state), row);
+    match advanced {
+        Advanced::Next(s) => words::answer(0, words::state(s)),
+        Advanced::Refused(c) => words::answer(c.number(), state),
+    }
+}
+
+// Running, with its round; or done, with value, grade and flag.
+#[no_mangle]
+pub extern "C" fn vembopu_result(n: u8, t: u8, upper: u8, sender: u8, own: u8, state: u32) -> u64
+    ensures { λ r. ⌜ ResultAnswer n t upper sender own state r ⌝ }
+{
+    let outcome = station::result(words::station(n, t, upper, sender, own, state));
+    match outcome {
+        Outcome::Running(r) => words::answer(0, words::four(0, r, 0, 0)),
+        Outcome::Done { value, grade, flag } => words::answer(
+            0,
+            words::four(1, value, grade, flag),
+        ),
+        Outcome::Refused(c) => words::answer(c.number(), 0),
+    }
+}

@@ -1,0 +1,156 @@
+//! The graded exchange (graded consensus): what a station makes of its two rows, the same for
+//! every receiver of a round at once, and the exchange had alone.
+
+use crate::line::{read_bit, read_or_blank, require, Cause, Line, Marks, BLANK, STATIONS};
+
+/// A byte for each station. Places beyond n are not used.
+pub type PerStation = [u8; STATIONS];
+
+/// How many ballots of a row of n are read as 0, 1 and blank.
+#[derive(Clone, Copy, PartialEq, Eq, Debug, Default)]
+pub struct Tally {
+    pub zeros: u8,
+    pub ones: u8,
+    pub blanks: u8,
+}
+
+impl Tally {
+    /// Step 1: a byte other than 0 or 1 is read as 0.
+    pub fn first(row: &[u8]) -> Tally {
+        Tally::of(row.iter().map(|&byte| read_bit(byte)))
+    }
+
+    /// Step 3: a byte other than 0 or 1 is read as blank.
+    pub fn second(row: &[u8]) -> Tally {
+        Tally::of(row.iter().map(|&byte| read_or_blank(byte)))
+    }
+
+    fn of(ballots: impl Iterator<Item = u8>) -> Tally {
+        let mut tally = Tally::default();
+        for ballot in ballots {
+            match ballot {
+                0 => tally.zeros += 1,
+                1 => tally.ones += 1,
+                _ => tally.blanks += 1,
+            }
+        }
+        tally
+    }
+
+    /// Step 2: z is x if at least n−T ballots equal x, otherwise blank.
+    pub fn z(&self, line: &Line, x: u8) -> u8 {
+        let equal = if x == 0 { self.zeros } else { self.ones };
+        if equal >= line.quorum() {
+            x
+        } else {
+            BLANK
+        }
+    }
+
+    /// Steps 4 and 5: y, and how well it is backed.
+    pub fn graded(&self, line: &Line) -> (u8, u8) {
+        let (y, backing) = if self.zeros > self.ones { (0, self.zeros) } else { (1, self.ones) };
+        let grade = if backing >= line.full_quorum() {
+            2
+        } else if backing >= line.quorum() {
+            1
+        } else {
+            0
+        };
+        (y, grade)
+    }
+}
+
+/// The flag is 1 when the grade is below 2.
+pub fn flag(grade: u8) -> u8 {
+    u8::from(grade < 2)
+}
+
+/// For each receiver, how many of a round's n·n bytes to it are `byte`.
+fn count(line: &Line, said: &[u8], byte: u8) -> PerStation {
+    let mut counts = [0; STATIONS];
+    for from_one in said.chunks_exact(line.n()) {
+        for (count, &ballot) in counts.iter_mut().zip(from_one) {
+            *count += u8::from(ballot == byte);
+        }
+    }
+    counts
+}
+
+/// Steps 1 and 2 at every receiver: each one's z from the first round's n·n bytes.
+pub fn hear_first(line: &Line, said: &[u8], x: &PerStation) -> PerStation {
+    let n = line.n() as u8;
+    let ones = count(line, said, 1);
+    let mut z = [BLANK; STATIONS];
+    for station in 0..line.n() {
+        let tally = Tally { zeros: n - ones[station], ones: ones[station], blanks: 0 };
+        z[station] = tally.z(line, x[station]);
+    }
+    z
+}
+
+/// Steps 3 to 5 at every receiver: each one's y and grade from the second round's n·n bytes.
+pub fn hear_second(line: &Line, said: &[u8]) -> (PerStation, PerStation) {
+    let n = line.n() as u8;
+    let (zeros, ones) = (count(line, said, 0), count(line, said, 1));
+    let (mut y, mut grade) = ([0; STATIONS], [0; STATIONS]);
+    for station in 0..line.n() {
+        let (a, b) = (zeros[station], ones[station]);
+        let tally = Tally { zeros: a, ones: b, blanks: n - a - b };
+        (y[station], grade[station]) = tally.graded(line);
+    }
+    (y, grade)
+}
+
+/// Writes the n·n bytes of a round: a good station's ballot to all, a bad one's bytes from the table.
+pub fn speak(line: &Line, marks: Marks, ballots: &PerStation, table: &[u8], said: &mut [u8]) {
+    let n = line.n();
+    let rows = said.chunks_exact_mut(n).zip(table.chunks_exact(n));
+    for ((to_all, from_table), station) in rows.zip(line.stations()) {
+        if marks.bad(station) {
+            to_all.copy_from_slice(from_table);
+        } else {
+            to_all.fill(ballots[usize::from(station) - 1]);
+        }
+    }
+}
+
+/// Writes three bytes a station: value, grade and flag, or 255 three times for a bad one.
+pub fn write_outcomes(line: &Line, marks: Marks, y: &PerStation, grade: &PerStation, outcomes: &mut [u8]) {
+    for (outcome, station) in outcomes.chunks_exact_mut(3).zip(line.stations()) {
+        let at = usize::from(station) - 1;
+        let good = [y[at], grade[at], flag(grade[at])];
+        outcome.copy_from_slice(if marks.bad(station) { &[255; 3] } else { &good });
+    }
+}
+
+/// The graded exchange had alone. Causes 2, 3, 5, 6 and 8; a refusal leaves the outcomes as they were.
+pub fn alone(
+    (n, t, upper): (u8, u8, u8),
+    marks: Marks,
+    inputs: &[u8],
+    table: &[u8],
+    outcomes: &mut [u8],
+) -> Result<(), Cause> {
+    let line = Line::new(n, t, upper)?;
+    if inputs.len() == line.n() {
+        let bits = line.stations().zip(inputs).all(|(i, &input)| marks.bad(i) || input <= 1);
+        require(bits, Cause::Value)?;
+    }
+    marks.within(&line)?;
+    require(inputs.len() == line.n(), Cause::Length)?;
+    require(table.len() == 2 * line.round_len(), Cause::Length)?;
+    require(outcomes.len() == line.outcomes_len(), Cause::Length)?;
+
+    let mut x = [0; STATIONS];
+    x[..line.n()].copy_from_slice(inputs);
+    let mut buffer = [0; STATIONS * STATIONS];
+    let said = &mut buffer[..line.round_len()];
+    let (first, second) = table.split_at(line.round_len());
+    speak(&line, marks, &x, first, said);
+    let z = hear_first(&line, said, &x);
+    speak(&line, marks, &z, second, said);
+    let (y, grade) = hear_second(&line, said);
+    write_outcomes(&line, marks, &y, &grade, outcomes);
+    Ok(())
+}

@@ -1,0 +1,16 @@
+//! A second implementation of document 01: Byzantine agreement on one bit with two thresholds.
+//!
+//! It shares no code and no table with the crates, so that the two can be compared byte for byte.
+//! Stations and rounds are numbered from 1, as in the document. T is called `upper`.
+
+#![deny(unsafe_code)]
+
+pub mod draw;
+pub mod exchange;
+pub mod line;
+pub mod listing;
+pub mod rehearsal;
+pub mod sheet;
+pub mod station;
+pub mod text;
+pub mod timing;

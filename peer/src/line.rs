@@ -1,0 +1,246 @@
+//! The line: stations, thresholds, rounds, marks, ballot bytes, and the causes of refusal.
+
+/// The most stations a line can have.
+pub const STATIONS: usize = 32;
+/// The bytes of the largest run table: n 32, t 10, 36 rounds.
+pub const LARGEST_TABLE: usize = 36_864;
+/// The ballot of a station that stands behind neither value.
+pub const BLANK: u8 = 2;
+/// The byte of a station that says nothing.
+pub const SILENCE: u8 = 255;
+
+/// A cause of refusal, in the order of the document's numbers.
+#[derive(Clone, Copy, PartialEq, Eq, PartialOrd, Ord, Debug)]
+pub enum Cause {
+    SheetForm = 1,
+    StationCount,
+    Thresholds,
+    StationNumber,
+    Value,
+    MarkBeyond,
+    StationState,
+    Length,
+    IndexBeyond,
+    ReachedAgain,
+    Record,
+    FromUnmarked,
+    Repeated,
+}
+
+impl Cause {
+    /// Every cause, lowest number first.
+    pub const ALL: [Cause; 13] = [
+        Cause::SheetForm,
+        Cause::StationCount,
+        Cause::Thresholds,
+        Cause::StationNumber,
+        Cause::Value,
+        Cause::MarkBeyond,
+        Cause::StationState,
+        Cause::Length,
+        Cause::IndexBeyond,
+        Cause::ReachedAgain,
+        Cause::Record,
+        Cause::FromUnmarked,
+        Cause::Repeated,
+    ];
+
+    /// The document's number.
+    pub fn number(self) -> u8 {
+        self as u8
+    }
+
+    /// The cause in words.
+    pub fn words(self) -> &'static str {
+        match self {
+            Cause::SheetForm => {
+                "the sheet's length is not 12 + 8k with k at most 4096, or byte 5 is not zero"
+            }
+            Cause::StationCount => "n is outside 1 to 32",
+            Cause::Thresholds => "t is above T, or t + 2T is not below n",
+            Cause::StationNumber => "the sender or own station is outside 1 to n",
+            Cause::Value => "the value or an unmarked station's input is not 0 or 1",
+            Cause::MarkBeyond => "a mark stands beyond station n",
+            Cause::StationState => "the station's state is out of range, or the station is done",
+            Cause::Length => "a lent buffer is not of its exact length",
+            Cause::IndexBeyond => "the chain reaches an index above k",
+            Cause::ReachedAgain => "the chain reaches a record again",
+            Cause::Record => {
+                "a record's round or station is out of range, or its last two bytes are not zero"
+            }
+            Cause::FromUnmarked => "a record's from is not marked",
+            Cause::Repeated => "an earlier record has the same round, from and to",
+        }
+    }
+}
+
+/// Refuses by `cause` unless `holds`.
+pub fn require(holds: bool, cause: Cause) -> Result<(), Cause> {
+    if holds {
+        Ok(())
+    } else {
+        Err(cause)
+    }
+}
+
+/// A ballot read in round 1, in the first round of an exchange, and from a king: 0 unless it is 1.
+pub fn read_bit(byte: u8) -> u8 {
+    u8::from(byte == 1)
+}
+
+/// A ballot read in the second round of an exchange: blank unless it is 0 or 1.
+pub fn read_or_blank(byte: u8) -> u8 {
+    if byte <= 1 {
+        byte
+    } else {
+        BLANK
+    }
+}
+
+/// What a round is for.
+#[derive(Clone, Copy, PartialEq, Eq, Debug)]
+pub enum Part {
+    /// Round 1: the sender speaks.
+    Sender,
+    /// The first round of an exchange: all send x.
+    First,
+    /// The second round of an exchange: all send z.
+    Second,
+    /// The round of this king, who sends its y.
+    King(u8),
+}
+
+/// A line that the document allows. It can only be had through [`Line::new`].
+#[derive(Clone, Copy, PartialEq, Eq, Debug)]
+pub struct Line {
+    n: u8,
+    t: u8,
+    upper: u8,
+}
+
+impl Line {
+    /// Causes 2 and 3.
+    pub fn new(n: u8, t: u8, upper: u8) -> Result<Line, Cause> {
+        require((1..=32).contains(&n), Cause::StationCount)?;
+        let sum = u16::from(t) + 2 * u16::from(upper);
+        require(t <= upper && sum < u16::from(n), Cause::Thresholds)?;
+        Ok(Line { n, t, upper })
+    }
+
+    pub fn n(&self) -> usize {
+        usize::from(self.n)
+    }
+
+    pub fn t(&self) -> u8 {
+        self.t
+    }
+
+    pub fn upper(&self) -> u8 {
+        self.upper
+    }
+
+    /// n − T: as many equal ballots keep z from being blank, and give grade 1.
+    pub fn quorum(&self) -> u8 {
+        self.n - self.upper
+    }
+
+    /// n − t: as many equal ballots give grade 2.
+    pub fn full_quorum(&self) -> u8 {
+        self.n - self.t
+    }
+
+    /// R.
+    pub fn rounds(&self) -> u8 {
+        3 * self.t + 6
+    }
+
+    /// What round 1 to R is for.
+    pub fn part(&self, round: u8) -> Part {
+        match (round, round % 3) {
+            (1, _) => Part::Sender,
+            (_, 2) => Part::First,
+            (_, 0) => Part::Second,
+            _ => Part::King((round - 1) / 3),
+        }
+    }
+
+    /// The bytes of one round: n·n.
+    pub fn round_len(&self) -> usize {
+        self.n() * self.n()
+    }
+
+    /// The bytes of a run table or log: R·n·n.
+    pub fn table_len(&self) -> usize {
+        usize::from(self.rounds()) * self.round_len()
+    }
+
+    /// The bytes of the outcomes: three a station.
+    pub fn outcomes_len(&self) -> usize {
+        3 * self.n()
+    }
+
+    /// Where the byte of this round stands, from one station to another.
+    pub fn place(&self, round: u8, from: u8, to: u8) -> usize {
+        let before = (usize::from(round) - 1) * self.n() + usize::from(from) - 1;
+        before * self.n() + usize::from(to) - 1
+    }
+
+    /// The bytes of one round that come from one station.
+    pub fn from_one<'a>(&self, station: u8, said: &'a [u8]) -> &'a [u8] {
+        &said[(usize::from(station) - 1) * self.n()..][..self.n()]
+    }
+
+    /// Whether this is a station's number, 1 to n.
+    pub fn has(&self, station: u8) -> bool {
+        (1..=self.n).contains(&station)
+    }
+
+    /// The stations, 1 to n.
+    pub fn stations(&self) -> impl Iterator<Item = u8> {
+        1..=self.n
+    }
+}
+
+/// The marks of the bad stations: bit i−1 for station i.
+#[derive(Clone, Copy, PartialEq, Eq, Debug)]
+pub struct Marks(pub u32);
+
+impl Marks {
+    /// Whether the station, 1 to 32, is bad.
+    pub fn bad(self, station: u8) -> bool {
+        self.0 >> (station - 1) & 1 == 1
+    }
+
+    /// f.
+    pub fn count(self) -> u32 {
+        self.0.count_ones()
+    }
+
+    /// Cause 6: no mark may stand beyond the line's last station.
+    pub fn within(self, line: &Line) -> Result<(), Cause> {
+        let beyond = u64::from(self.0) >> line.n();
+        require(beyond == 0, Cause::MarkBeyond)
+    }
+}
+
+/// What a run is told, besides its table.
+#[derive(Clone, Copy, PartialEq, Eq, Debug)]
+pub struct Header {
+    pub n: u8,
+    pub t: u8,
+    pub upper: u8,
+    pub sender: u8,
+    pub value: u8,
+    pub marks: Marks,
+}
+
+impl Header {
+    /// Causes 2 to 6, the lowest that holds.
+    pub fn judge(&self) -> Result<Line, Cause> {
+        let line = Line::new(self.n, self.t, self.upper)?;
+        require(line.has(self.sender), Cause::StationNumber)?;
+        require(self.value <= 1, Cause::Value)?;
+        self.marks.within(&line)?;
+        Ok(line)
+    }
+}

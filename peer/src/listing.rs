@@ -1,0 +1,49 @@
+//! The listing: a run's outcomes as text, or the refusal.
+
+use std::fmt::Write;
+
+use crate::line::{Cause, Header, Line};
+use crate::rehearsal::rehearse;
+use crate::sheet;
+
+/// An accepted sheet's run.
+pub struct Run {
+    pub header: Header,
+    pub line: Line,
+    pub log: Vec<u8>,
+    pub outcomes: Vec<u8>,
+}
+
+/// Reads a sheet and rehearses it. The buffers have their lengths, so cause 8 cannot arise.
+pub fn run(bytes: &[u8]) -> Result<Run, Cause> {
+    let line = sheet::header(bytes)?.judge()?;
+    let mut table = vec![0; line.table_len()];
+    let header = sheet::read(bytes, &mut table)?;
+    let mut log = vec![0; line.table_len()];
+    let mut outcomes = vec![0; line.outcomes_len()];
+    rehearse(&header, &table, &mut log, &mut outcomes)?;
+    Ok(Run { header, line, log, outcomes })
+}
+
+/// The listing of a sheet, a newline after every line.
+pub fn listing(bytes: &[u8]) -> String {
+    match run(bytes) {
+        Ok(run) => accepted(&run),
+        Err(cause) => format!("refused {}\n", cause.number()),
+    }
+}
+
+fn accepted(run: &Run) -> String {
+    let Header { n, t, upper, sender, .. } = run.header;
+    let mut text = format!("agree {n} {t} {upper} {sender} {}\n", run.line.rounds());
+    for (station, outcome) in run.line.stations().zip(run.outcomes.chunks_exact(3)) {
+        let [value, grade, flag] = [outcome[0], outcome[1], outcome[2]];
+        let written = if run.header.marks.bad(station) {
+            writeln!(text, "{station} - - -")
+        } else {
+            writeln!(text, "{station} {value} {grade} {flag}")
+        };
+        written.expect("a string takes any text");
+    }
+    text
+}

@@ -1,0 +1,95 @@
+//! Commands on run sheets.
+
+use std::io::{self, Read, Write};
+use std::process::ExitCode;
+
+use peer::draw::draw;
+use peer::line::Cause;
+use peer::listing::{listing, run};
+use peer::{sheet, text};
+
+const USAGE: &str = "\
+usage: peer listing [SHEET]    the listing of a run sheet
+       peer sheet [TEXT]       the run sheet that a text stands for
+       peer text [SHEET]       a run sheet as text, in the normal form
+       peer draw [SHEET]       a drawing of the run, as SVG
+A file that isn't named is read from standard input. What is made goes to standard output.";
+
+fn main() -> ExitCode {
+    let words: Vec<String> = std::env::args().skip(1).collect();
+    let Some((command, files)) = words.split_first() else { return usage() };
+    let file = match files {
+        [] => None,
+        [file] => Some(file.as_str()),
+        _ => return usage(),
+    };
+    let made = match command.as_str() {
+        "listing" => make_listing(file),
+        "sheet" => make_sheet(file),
+        "text" => make_text(file),
+        "draw" => make_drawing(file),
+        _ => return usage(),
+    };
+    match made.and_then(|bytes| print(&bytes)) {
+        Ok(()) => ExitCode::SUCCESS,
+        Err(message) => {
+            eprintln!("peer: {message}");
+            ExitCode::FAILURE
+        }
+    }
+}
+
+fn usage() -> ExitCode {
+    eprintln!("{USAGE}");
+    ExitCode::from(2)
+}
+
+fn make_listing(file: Option<&str>) -> Result<Vec<u8>, String> {
+    Ok(listing(&read_sheet(file)?).into_bytes())
+}
+
+fn make_sheet(file: Option<&str>) -> Result<Vec<u8>, String> {
+    let bytes = read_at_most(file, u64::MAX)?;
+    text::to_sheet(&String::from_utf8_lossy(&bytes)).map_err(|error| format!("{}: {error}", name(file)))
+}
+
+fn make_text(file: Option<&str>) -> Result<Vec<u8>, String> {
+    let made = text::of_sheet(&read_sheet(file)?).map_err(|cause| refused(file, cause))?;
+    Ok(made.into_bytes())
+}
+
+fn make_drawing(file: Option<&str>) -> Result<Vec<u8>, String> {
+    let run = run(&read_sheet(file)?).map_err(|cause| refused(file, cause))?;
+    Ok(draw(&run).into_bytes())
+}
+
+fn refused(file: Option<&str>, cause: Cause) -> String {
+    format!("{}: refused {}: {}", name(file), cause.number(), cause.words())
+}
+
+fn name(file: Option<&str>) -> &str {
+    file.unwrap_or("standard input")
+}
+
+/// A sheet's bytes. Of a longer file only one byte too many is read, which is refused all the same.
+fn read_sheet(file: Option<&str>) -> Result<Vec<u8>, String> {
+    read_at_most(file, sheet::LONGEST as u64 + 1)
+}
+
+fn read_at_most(file: Option<&str>, most: u64) -> Result<Vec<u8>, String> {
+    let mut bytes = Vec::new();
+    let read = match file {
+        Some(path) => std::fs::File::open(path).and_then(|file| file.take(most).read_to_end(&mut bytes)),
+        None => io::stdin().lock().take(most).read_to_end(&mut bytes),
+    };
+    match read {
+        Ok(_) => Ok(bytes),
+        Err(error) => Err(format!("{}: {error}", name(file))),
+    }
+}
+
+fn print(bytes: &[u8]) -> Result<(), String> {
+    let mut out = io::stdout().lock();
+    let printed = out.write_all(bytes).and_then(|()| out.flush());
+    printed.map_err(|error| format!("standard output: {error}"))
+}

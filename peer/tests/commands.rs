@@ -1,0 +1,83 @@
+//! The program's commands: what they print, where, and their exit status.
+
+use std::io::Write;
+use std::process::{Command, Stdio};
+
+const CASE_A: [u8; 12] = [4, 1, 1, 1, 1, 0, 0, 0, 8, 0, 0, 0];
+const CASE_A_TEXT: &str = "n 4\nt 1\nT 1\nsender 1\nvalue 1\nbad 4\n";
+const CASE_A_LISTING: &str = "agree 4 1 1 1 9\n1 1 2 0\n2 1 2 0\n3 1 2 0\n4 - - -\n";
+
+/// Exit status, standard output and standard error of a command that is fed these bytes.
+fn peer(words: &[&str], fed: &[u8]) -> (i32, Vec<u8>, String) {
+    let mut command = Command::new(env!("CARGO_BIN_EXE_peer"));
+    command.args(words).stdin(Stdio::piped()).stdout(Stdio::piped()).stderr(Stdio::piped());
+    let mut child = command.spawn().unwrap();
+    // a command that has read enough may close its end
+    let _ = child.stdin.take().unwrap().write_all(fed);
+    let output = child.wait_with_output().unwrap();
+    let said = String::from_utf8(output.stderr).unwrap();
+    (output.status.code().unwrap(), output.stdout, said)
+}
+
+fn listed(fed: &[u8]) -> String {
+    let (status, printed, said) = peer(&["listing"], fed);
+    assert_eq!((status, said.as_str()), (0, ""));
+    String::from_utf8(printed).unwrap()
+}
+
+#[test]
+fn listing() {
+    assert_eq!(listed(&CASE_A), CASE_A_LISTING);
+    assert_eq!(listed(&CASE_A[..11]), "refused 1\n");
+    assert_eq!(listed(&[]), "refused 1\n");
+    assert_eq!(listed(&[0; 100_000]), "refused 1\n");
+}
+
+#[test]
+fn sheet_and_text() {
+    assert_eq!(peer(&["sheet"], CASE_A_TEXT.as_bytes()), (0, CASE_A.to_vec(), String::new()));
+    assert_eq!(peer(&["text"], &CASE_A), (0, CASE_A_TEXT.as_bytes().to_vec(), String::new()));
+}
+
+#[test]
+fn a_wrong_text() {
+    let wrong = format!("{CASE_A_TEXT}round 1 from 4 to 9 ballot 1\n");
+    let said = "peer: standard input: line 7: station 9 is beyond n 4\n".to_string();
+    assert_eq!(peer(&["sheet"], wrong.as_bytes()), (1, vec![], said));
+}
+
+#[test]
+fn refused_sheets() {
+    let mut sheet = CASE_A;
+    sheet[6] = 1;
+    let said = "peer: standard input: refused 9: the chain reaches an index above k\n".to_string();
+    assert_eq!(peer(&["text"], &sheet), (1, vec![], said.clone()));
+    assert_eq!(peer(&["draw"], &sheet), (1, vec![], said));
+}
+
+#[test]
+fn a_drawing() {
+    let (status, drawing, said) = peer(&["draw"], &CASE_A);
+    assert_eq!((status, said.as_str()), (0, ""));
+    assert!(drawing.starts_with(b"<svg ") && drawing.ends_with(b"</svg>\n"));
+}
+
+#[test]
+fn files() {
+    let file = std::path::Path::new(env!("CARGO_TARGET_TMPDIR")).join("case-a");
+    std::fs::write(&file, CASE_A).unwrap();
+    let name = file.to_str().unwrap();
+    assert_eq!(peer(&["listing", name], &[]), (0, CASE_A_LISTING.as_bytes().to_vec(), String::new()));
+    let (status, printed, said) = peer(&["listing", "no such file"], &CASE_A);
+    assert_eq!((status, printed), (1, vec![]));
+    assert!(said.starts_with("peer: no such file: "));
+}
+
+#[test]
+fn usage() {
+    for words in [&[][..], &["lisitng"], &["listing", "a", "b"]] {
+        let (status, printed, said) = peer(words, &[]);
+        assert_eq!((status, printed), (2, vec![]));
+        assert!(said.starts_with("usage: peer listing"));
+    }
+}

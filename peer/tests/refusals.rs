@@ -1,0 +1,205 @@
+//! Every refusal: the lowest cause that holds is given, and the lent buffers are left as they were.
+
+mod common;
+
+use common::Lot;
+use peer::exchange::alone;
+use peer::line::{Cause, Header, Line, Marks, LARGEST_TABLE};
+use peer::rehearsal::rehearse;
+use peer::station::{Answer, Station};
+
+/// 0 for an accepted call, otherwise the cause's number.
+fn code<T>(answer: Result<T, Cause>) -> u8 {
+    answer.map_or_else(Cause::number, |_| 0)
+}
+
+/// The lowest number whose cause holds, 0 if none does.
+fn lowest(causes: &[(u8, bool)]) -> u8 {
+    causes.iter().filter(|(_, holds)| *holds).map(|(number, _)| *number).min().unwrap_or(0)
+}
+
+/// Numbers of a line that are often near the edge of what is allowed.
+fn edge_numbers(lot: &mut Lot) -> (u8, u8, u8) {
+    let n = lot.pick(&[0, 1, 2, 3, 4, 5, 7, 31, 32, 33, 255]);
+    let t: u8 = lot.pick(&[0, 0, 1, 1, 2, 10, 11, 255]);
+    let upper = lot.pick(&[t, t, t.wrapping_sub(1), t.wrapping_add(1), 0, 15, 16]);
+    (n, t, upper)
+}
+
+fn no_stations(n: u8) -> bool {
+    n == 0 || n > 32
+}
+
+fn no_thresholds(n: u8, t: u8, upper: u8) -> bool {
+    t > upper || i32::from(t) + 2 * i32::from(upper) >= i32::from(n)
+}
+
+/// Marks that are often near bit n.
+fn edge_marks(lot: &mut Lot, n: u8) -> u32 {
+    let near = 1u64 << n.min(32);
+    lot.pick(&[0, 1, near - 1, near, near >> 1]) as u32
+}
+
+fn mark_beyond(n: u8, marks: u32) -> bool {
+    (u32::from(n)..32).any(|bit| marks >> bit & 1 == 1)
+}
+
+/// A length that is now and then one off.
+fn near(lot: &mut Lot, exact: usize) -> usize {
+    match lot.below(9) {
+        0 => exact + 1,
+        1 => exact.saturating_sub(1),
+        _ => exact,
+    }
+}
+
+/// The exact lengths of table and outcomes; any numbers where the line is refused.
+fn lengths(n: u8, t: u8, rounds: usize) -> (usize, usize) {
+    if no_stations(n) || t > 32 {
+        return (7, 3);
+    }
+    (rounds * usize::from(n) * usize::from(n), 3 * usize::from(n))
+}
+
+#[test]
+fn rehearsals() {
+    let mut lot = Lot(1);
+    let mut seen = [0; 14];
+    for _ in 0..30_000 {
+        let (n, t, upper) = edge_numbers(&mut lot);
+        let sender = lot.pick(&[1, 1, n, n, 0, n.wrapping_add(1)]);
+        let value = lot.pick(&[0, 1, 0, 1, 2, 255]);
+        let marks = edge_marks(&mut lot, n);
+        let (exact, three) = lengths(n, t, 3 * usize::from(t) + 6);
+        let table = vec![1; near(&mut lot, exact)];
+        let mut log = vec![99; near(&mut lot, exact)];
+        let mut outcomes = vec![99; near(&mut lot, three)];
+        let expected = lowest(&[
+            (2, no_stations(n)),
+            (3, no_thresholds(n, t, upper)),
+            (4, sender == 0 || sender > n),
+            (5, value > 1),
+            (6, mark_beyond(n, marks)),
+            (8, table.len() != exact || log.len() != exact || outcomes.len() != three),
+        ]);
+        let header = Header { n, t, upper, sender, value, marks: Marks(marks) };
+        assert_eq!(code(rehearse(&header, &table, &mut log, &mut outcomes)), expected, "{header:?}");
+        let untouched = log.iter().chain(&outcomes).all(|&byte| byte == 99);
+        assert!(untouched == (expected != 0), "{header:?}");
+        seen[usize::from(expected)] += 1;
+    }
+    assert!([0, 2, 3, 4, 5, 6, 8].iter().all(|&cause: &usize| seen[cause] > 20), "{seen:?}");
+}
+
+#[test]
+fn exchanges() {
+    let mut lot = Lot(2);
+    let mut seen = [0; 14];
+    for _ in 0..30_000 {
+        let (n, t, upper) = edge_numbers(&mut lot);
+        let marks = edge_marks(&mut lot, n);
+        let (exact, three) = lengths(n, t, 2);
+        let mut inputs = vec![1; near(&mut lot, usize::from(n))];
+        if lot.one_in(2) && !inputs.is_empty() {
+            let at = lot.below(inputs.len() as u64) as usize;
+            inputs[at] = lot.pick(&[0, 2, 255]);
+        }
+        let table = vec![1; near(&mut lot, exact)];
+        let mut outcomes = vec![99; near(&mut lot, three)];
+        let input_off =
+            inputs.iter().enumerate().any(|(i, &input)| input > 1 && (i > 31 || marks >> i & 1 == 0));
+        let inputs_off_length = inputs.len() != usize::from(n);
+        let expected = lowest(&[
+            (2, no_stations(n)),
+            (3, no_thresholds(n, t, upper)),
+            (5, !inputs_off_length && input_off),
+            (6, mark_beyond(n, marks)),
+            (8, inputs_off_length || table.len() != exact || outcomes.len() != three),
+        ]);
+        let answer = alone((n, t, upper), Marks(marks), &inputs, &table, &mut outcomes);
+        assert_eq!(code(answer), expected, "{n} {t} {upper} {marks} {inputs:?}");
+        assert!(outcomes.iter().all(|&byte| byte == 99) == (expected != 0));
+        seen[usize::from(expected)] += 1;
+    }
+    assert!([0, 2, 3, 5, 6, 8].iter().all(|&cause: &usize| seen[cause] > 20), "{seen:?}");
+}
+
+#[test]
+fn opening() {
+    let mut lot = Lot(3);
+    let mut seen = [0; 14];
+    for _ in 0..30_000 {
+        let (n, t, upper) = edge_numbers(&mut lot);
+        let sender = lot.pick(&[1, 1, n, n, 0, n.wrapping_add(1)]);
+        let own = lot.pick(&[1, 1, n, n, 0, n.wrapping_add(1)]);
+        let value = lot.pick(&[0, 1, 2, 255]);
+        let expected = lowest(&[
+            (2, no_stations(n)),
+            (3, no_thresholds(n, t, upper)),
+            (4, sender == 0 || sender > n || own == 0 || own > n),
+            (5, value > 1),
+        ]);
+        let opened = Station::open((n, t, upper), sender, own, value);
+        if let Ok(station) = opened {
+            assert_eq!(station.to_bytes(), [n, t, upper, sender, own, 1, value, 2, 0]);
+        }
+        assert_eq!(code(opened), expected);
+        seen[usize::from(expected)] += 1;
+    }
+    assert!([0, 2, 3, 4, 5].iter().all(|&cause: &usize| seen[cause] > 20), "{seen:?}");
+}
+
+#[test]
+fn station_states() {
+    let mut lot = Lot(4);
+    let mut seen = [0; 14];
+    for _ in 0..60_000 {
+        let (n, t, upper) = edge_numbers(&mut lot);
+        let sender = lot.pick(&[1, 1, 1, n, n, 0, n.wrapping_add(1)]);
+        let own = lot.pick(&[1, 1, 1, n, n, 0, n.wrapping_add(1)]);
+        let last = t.wrapping_mul(3).wrapping_add(6);
+        let round = lot.pick(&[0, 1, 2, 3, 4, last, last.wrapping_add(1), last.wrapping_add(2)]);
+        let (value, z) = (lot.pick(&[0, 1, 1, 2]), lot.pick(&[0, 1, 2, 2, 3]));
+        let grade = lot.pick(&[0, 1, 2, 2, 3]);
+        let station = Station::from_bytes([n, t, upper, sender, own, round, value, z, grade]);
+        let done = round == last.wrapping_add(1);
+        let row = vec![1; near(&mut lot, usize::from(n))];
+        let mut causes = vec![
+            (2, no_stations(n)),
+            (3, no_thresholds(n, t, upper)),
+            (4, sender == 0 || sender > n || own == 0 || own > n),
+            (7, round == 0 || round > last.wrapping_add(1) || value > 1 || z > 2 || grade > 2),
+        ];
+        let whole = lowest(&causes);
+        assert_eq!(code(station.result()), whole, "{station:?}");
+        if whole == 0 {
+            assert_eq!(matches!(station.result().unwrap(), Answer::Done { .. }), done);
+        }
+        causes.push((7, done));
+        assert_eq!(code(station.ballot()), lowest(&causes), "{station:?}");
+        causes.push((8, row.len() != usize::from(n)));
+        let expected = lowest(&causes);
+        assert_eq!(code(station.take(&row)), expected, "{station:?}");
+        seen[usize::from(expected)] += 1;
+    }
+    assert!([0, 2, 3, 4, 7, 8].iter().all(|&cause: &usize| seen[cause] > 20), "{seen:?}");
+}
+
+#[test]
+fn numbers_of_the_causes() {
+    for (cause, number) in Cause::ALL.iter().zip(1..) {
+        assert_eq!(cause.number(), number);
+        assert!(!cause.words().is_empty());
+    }
+}
+
+#[test]
+fn the_largest_table() {
+    assert_eq!(Line::new(32, 10, 10).unwrap().table_len(), LARGEST_TABLE);
+    for n in 0..=255 {
+        for t in 0..=255 {
+            let lines = (0..=255).filter_map(|upper| Line::new(n, t, upper).ok());
+            assert!(lines.into_iter().all(|line| line.table_len() <= LARGEST_TABLE));
+        }
+    }
+}

@@ -1,0 +1,222 @@
+//! Demands 2 and 3 on runs drawn by lot, and what the document says of the log and of effects.
+
+mod common;
+
+use common::Lot;
+use peer::exchange::{alone, Tally};
+use peer::line::{Header, Line, Part};
+use peer::rehearsal::rehearse;
+use peer::station::{Answer, Station};
+
+fn run(header: &Header, table: &[u8]) -> (Vec<u8>, Vec<u8>) {
+    let line = header.judge().unwrap();
+    let (mut log, mut outcomes) = (vec![9; line.table_len()], vec![9; line.outcomes_len()]);
+    rehearse(header, table, &mut log, &mut outcomes).unwrap();
+    (log, outcomes)
+}
+
+fn good(header: &Header) -> Vec<u8> {
+    (1..=header.n).filter(|&i| !header.marks.bad(i)).collect()
+}
+
+/// Value, grade and flag of the good stations.
+fn decided(header: &Header, outcomes: &[u8]) -> Vec<[u8; 3]> {
+    let three = |i: u8| outcomes[usize::from(i - 1) * 3..][..3].try_into().unwrap();
+    good(header).into_iter().map(three).collect()
+}
+
+fn guarantees(header: &Header, outcomes: &[u8]) {
+    let f = header.marks.count();
+    let decided = decided(header, outcomes);
+    let agreed = decided.windows(2).all(|two| two[0][0] == two[1][0]);
+    let flagged = |outcome: &[u8; 3]| outcome[2] == 1;
+    if f <= header.t.into() {
+        assert!(agreed && !decided.iter().any(flagged), "{header:?} {outcomes:?}");
+    }
+    if f <= header.upper.into() && !header.marks.bad(header.sender) {
+        assert!(decided.iter().all(|outcome| outcome[0] == header.value), "{header:?} {outcomes:?}");
+    }
+    if f <= header.upper.into() && !agreed {
+        assert!(decided.iter().all(flagged), "{header:?} {outcomes:?}");
+    }
+    if decided.iter().any(flagged) {
+        assert!(f > header.t.into(), "{header:?} {outcomes:?}");
+    }
+}
+
+/// A header with at most `most` stations and f near one of the thresholds.
+fn near_thresholds(lot: &mut Lot, most: u8) -> (Header, Line) {
+    let mut header = lot.header(most);
+    let line = header.judge().unwrap();
+    let f = lot.pick(&[header.t, header.upper, header.upper + 1]);
+    header.marks = lot.marks(&line, u32::from(f.min(header.n)));
+    (header, line)
+}
+
+#[test]
+fn demand_3() {
+    let mut lot = Lot(10);
+    let (mut flags, mut splits) = (0, 0);
+    for _ in 0..60_000 {
+        let (header, line) = near_thresholds(&mut lot, 9);
+        let (_, outcomes) = run(&header, &lot.table(&line));
+        guarantees(&header, &outcomes);
+        let decided = decided(&header, &outcomes);
+        flags += usize::from(decided.iter().any(|outcome| outcome[2] == 1));
+        splits += usize::from(decided.windows(2).any(|two| two[0][0] != two[1][0]));
+    }
+    assert!(flags > 500 && splits > 50, "the lot must reach flags and splits: {flags} {splits}");
+}
+
+#[test]
+fn demand_3_on_long_lines() {
+    let mut lot = Lot(11);
+    for _ in 0..500 {
+        let (header, line) = near_thresholds(&mut lot, 32);
+        let (_, outcomes) = run(&header, &lot.table(&line));
+        guarantees(&header, &outcomes);
+    }
+}
+
+/// Every table of one bad station's effective bytes in the smallest line with t 1 would be too many;
+/// with n 3, t 0, T 1 they are 2 to the 10 for ballots 0 and 1.
+#[test]
+fn demand_3_on_every_split_of_case_c() {
+    let header = common::header(3, 0, 1, 1, 0, 0b001);
+    let line = header.judge().unwrap();
+    for bits in 0..1 << 10 {
+        let mut table = vec![255; line.table_len()];
+        for (bit, (round, to)) in [1, 2, 3, 5, 6].iter().flat_map(|&r| [(r, 2), (r, 3)]).enumerate() {
+            table[line.place(round, 1, to)] = (bits >> bit & 1) as u8;
+        }
+        guarantees(&header, &run(&header, &table).1);
+    }
+}
+
+/// The bytes sent to one station in one round.
+fn column(line: &Line, log: &[u8], round: u8, to: u8) -> Vec<u8> {
+    line.stations().map(|from| log[line.place(round, from, to)]).collect()
+}
+
+/// A good station, run singly on its columns of the log, sends the log's bytes and reaches its outcome.
+fn follows(header: &Header, line: &Line, log: &[u8], outcomes: &[u8], own: u8, value: u8) {
+    let numbers = (header.n, header.t, header.upper);
+    let mut station = Station::open(numbers, header.sender, own, value).unwrap();
+    for round in 1..=line.rounds() {
+        assert_eq!(station.result(), Ok(Answer::Running { round }));
+        let ballot = station.ballot().unwrap();
+        assert!(line.stations().all(|to| log[line.place(round, own, to)] == ballot));
+        station = station.take(&column(line, log, round, own)).unwrap();
+    }
+    let three = &outcomes[usize::from(own - 1) * 3..][..3];
+    let done = Answer::Done { value: three[0], grade: three[1], flag: three[2] };
+    assert_eq!(station.result(), Ok(done));
+}
+
+#[test]
+fn demand_2() {
+    let mut lot = Lot(12);
+    for most in [5u8, 9, 32] {
+        for _ in 0..20_000 / usize::from(most).pow(2) {
+            let header = lot.header(most);
+            let line = header.judge().unwrap();
+            let table = lot.table(&line);
+            let (log, outcomes) = run(&header, &table);
+            for own in line.stations() {
+                if header.marks.bad(own) {
+                    assert_eq!(outcomes[usize::from(own - 1) * 3..][..3], [255; 3]);
+                    let places = (1..=line.rounds()).flat_map(|r| (1..=header.n).map(move |j| (r, j)));
+                    let mut places = places.map(|(round, to)| line.place(round, own, to));
+                    assert!(places.all(|place| log[place] == table[place]));
+                } else {
+                    let value = if own == header.sender { header.value } else { lot.below(2) as u8 };
+                    follows(&header, &line, &log, &outcomes, own, value);
+                }
+            }
+        }
+    }
+}
+
+/// Whether a station should speak in a round.
+fn speaks(header: &Header, line: &Line, round: u8, station: u8) -> bool {
+    match line.part(round) {
+        Part::Sender => station == header.sender,
+        Part::King(king) => station == king,
+        Part::First | Part::Second => true,
+    }
+}
+
+/// Table bytes of good senders, and of bad ones that should not speak, have no effect.
+#[test]
+fn what_has_no_effect() {
+    let mut lot = Lot(13);
+    for _ in 0..3_000 {
+        let header = lot.header(7);
+        let line = header.judge().unwrap();
+        let table = lot.table(&line);
+        let mut other = table.clone();
+        for round in 1..=line.rounds() {
+            for from in line.stations() {
+                if !header.marks.bad(from) || !speaks(&header, &line, round, from) {
+                    line.stations().for_each(|to| other[line.place(round, from, to)] = lot.byte());
+                }
+            }
+        }
+        let ((log, outcomes), (other_log, other_outcomes)) = (run(&header, &table), run(&header, &other));
+        assert_eq!(outcomes, other_outcomes);
+        for (place, (byte, other)) in log.iter().zip(&other_log).enumerate() {
+            let from = (place / line.n() % line.n() + 1) as u8;
+            assert!(header.marks.bad(from) || byte == other);
+        }
+    }
+}
+
+/// The exchange had alone is what single stations make of rounds 2 and 3.
+#[test]
+fn exchange_alone() {
+    let mut lot = Lot(14);
+    for _ in 0..5_000 {
+        let header = lot.header(9);
+        let line = header.judge().unwrap();
+        let table = lot.table(&line)[..2 * line.round_len()].to_vec();
+        let mut inputs: Vec<u8> = (0..header.n).map(|_| lot.below(2) as u8).collect();
+        let bad = |i: u8| header.marks.bad(i);
+        line.stations().filter(|&i| bad(i)).for_each(|i| inputs[usize::from(i - 1)] = lot.byte());
+        let mut outcomes = vec![9; line.outcomes_len()];
+        let numbers = (header.n, header.t, header.upper);
+        alone(numbers, header.marks, &inputs, &table, &mut outcomes).unwrap();
+
+        let open =
+            |i: u8| Station { round: 2, ..Station::open(numbers, 1, i, inputs[usize::from(i - 1)]).unwrap() };
+        let mut stations: Vec<_> =
+            line.stations().map(|i| if bad(i) { None } else { Some(open(i)) }).collect();
+        for round in 1..=2 {
+            let told: Vec<_> = stations.iter().map(|s| s.map(|s| s.ballot().unwrap())).collect();
+            for (to, station) in (1..).zip(stations.iter_mut()) {
+                let row = |i: u8| told[usize::from(i - 1)].unwrap_or(table[line.place(round, i, to)]);
+                let row: Vec<u8> = line.stations().map(row).collect();
+                *station = station.map(|s| s.take(&row).unwrap());
+            }
+        }
+        for (station, outcome) in stations.iter().zip(outcomes.chunks(3)) {
+            let expected = station.map_or([255; 3], |s| [s.value, s.grade, u8::from(s.grade < 2)]);
+            assert_eq!(outcome, expected);
+        }
+    }
+}
+
+/// Zeros, ones and blanks make n, in both rounds; in the first none is blank.
+#[test]
+fn tallies_make_n() {
+    let mut lot = Lot(15);
+    for _ in 0..20_000 {
+        let n = 1 + lot.below(32) as usize;
+        let row: Vec<u8> = (0..n).map(|_| lot.ballot()).collect();
+        let (first, second) = (Tally::first(&row), Tally::second(&row));
+        assert_eq!(usize::from(first.zeros + first.ones), n);
+        assert_eq!(first.blanks, 0);
+        assert_eq!(usize::from(second.zeros + second.ones + second.blanks), n);
+        assert_eq!(usize::from(second.zeros), row.iter().filter(|&&byte| byte == 0).count());
+        assert_eq!(first.ones, second.ones);
+    }
+}
