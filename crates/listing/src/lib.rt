@@ -1,1 +1,103 @@
-// The listing of a run: its lines are defined in specs/.
+// The listing of a run sheet: the sheet is read, the run rehearsed, and the text written into a lent buffer.
+ghost use mathlib.Core.Path.{_≡_};
+ghost use Prim.Native.Nat.{_≤_, min};
+ghost use lib.ListN.{length};
+ghost use Rattle.line.specs.Line.{outcomes-length};
+ghost use Rattle.sheet.specs.Layout.{byte};
+ghost use Rattle.listing.specs.Promise.{wanted, front, Lists};
+ghost use Rattle.listing.specs.Loops.{Readable, Runs, ListsWhole};
+use line::Line;
+use line::cause::Verdict;
+use sheet::Header;
+use sheet::Reading;
+
+mod write;
+
+// The byte at i, 0 past the sheet's end.
+fn byte(sheet: &[u8], i: usize) -> u8
+    ensures { λ r. ⌜ r ≡ byte (now (sheet .entry)) i ⌝ }
+{
+    if i < sheet.len() { sheet[i] } else { 0 }
+}
+
+// The table length of the sheet's line.
+fn wanted(sheet: &[u8]) -> usize
+    ensures { λ r. ⌜ r ≡ wanted (now (sheet .entry)) ⌝ }
+{
+    let line = Line {
+        n: byte(sheet, 0),
+        t: byte(sheet, 1),
+        upper: 0,
+    };
+    line.table_len()
+}
+
+// The length, or the buffer's where that is less.
+fn within(len: usize, most: usize) -> usize
+    ensures { λ r. ⌜ (r ≡ min len most) × (r ≤ most) ⌝ }
+{
+    if len < most { len } else { most }
+}
+
+// Rehearses what was read, with outcomes of the line's length, and lists them.
+fn list_outcomes(
+    header: Header,
+    table: &[u8],
+    log: &mut [u8],
+    outcomes: &mut [u8],
+    text: &mut [u8],
+) -> usize
+    requires { ⌜ Readable header (now table) × (length (now outcomes) ≡ outcomes-length (header .n)) ⌝ }
+    ensures { λ r. ⌜ Runs header (now (table .entry)) (now (log .entry)) (now (log .exit)) (now (text .entry)) (now (text .exit)) r ⌝ }
+{
+    let line = Line {
+        n: header.n,
+        t: header.t,
+        upper: header.upper,
+    };
+    let verdict = rehearsal::rehearse(
+        line,
+        header.sender,
+        header.value,
+        header.marks,
+        table,
+        log,
+        outcomes,
+    );
+    match verdict {
+        Verdict::Accepted => write::lines(text, header, outcomes),
+        Verdict::Refused(c) => write::refusal(text, c.number()),
+    }
+}
+
+// Rehearses and lists what was read.
+fn list_run(header: Header, table: &[u8], log: &mut [u8], text: &mut [u8]) -> usize
+    requires { ⌜ Readable header (now table) ⌝ }
+    ensures { λ r. ⌜ Runs header (now (table .entry)) (now (log .entry)) (now (log .exit)) (now (text .entry)) (now (text .exit)) r ⌝ }
+{
+    let mut outcomes = [0u8; 96];
+    let m = 3 * (header.n as usize);
+    list_outcomes(header, table, log, &mut outcomes[..m], text)
+}
+
+// Reads the sheet into all of the table, and rehearses with all of the log.
+fn list_whole(sheet: &[u8], table: &mut [u8], log: &mut [u8], text: &mut [u8]) -> usize
+    ensures { λ r. ⌜ ListsWhole (now (sheet .entry)) (now (table .entry)) (now (table .exit)) (now (log .entry)) (now (log .exit)) (now (text .entry)) (now (text .exit)) r ⌝ }
+{
+    let reading = sheet::read(sheet, table);
+    match reading {
+        Reading::Accepted(header) => list_run(header, table, log, text),
+        Reading::Refused(c) => write::refusal(text, c.number()),
+    }
+}
+
+// Writes the listing of a sheet at the start of the text, as far as the text goes, and answers the listing's length. The fronts of the table and the
+// log that have the line's table length are lent on; the rest of them is left as it was.
+pub fn list(sheet: &[u8], table: &mut [u8], log: &mut [u8], text: &mut [u8]) -> usize
+    ensures { λ r. ⌜ Lists (now (sheet .entry)) (now (table .entry)) (now (table .exit)) (now (log .entry)) (now (log .exit)) (now (text .entry)) (now (text .exit)) r ⌝ }
+{
+    let len = wanted(sheet);
+    let a = within(len, table.len());
+    let b = within(len, log.len());
+    list_whole(sheet, &mut table[..a], &mut log[..b], text)
+}

@@ -1,0 +1,132 @@
+-- Laws of the listing: its promise from what the reader and the rehearsal promise, and from buffers lent in part. Assumes nothing.
+use Prim.Native.Nat.{ℕ, _≤_, min}
+use mathlib.Core.Path.{_≡_, refl, sym, _∙_}
+use mathlib.Core.List.{List, [], _∷_, _++_}
+use native.Mathlib.Omega.{arith}
+use lib.ListN.{length, take, drop, take-append-drop}
+use lib.Seq.{length-take-le}
+use Rattle.line.specs.Line.{table-length, outcomes-length}
+use Rattle.line.specs.Cause.{number, _or-else_, written}
+use Rattle.line.specs.Header.{exact-length}
+use Rattle.line.specs.declared.cause.Cause.{Cause}
+use Rattle.line.specs.declared.cause.Verdict.{Verdict}
+use Rattle.line.specs.declared.cause.Verdict.the-variants as verdict
+use Rattle.line.proofs.HeaderLaws.{both-accepted, header-accepts, length-accepts}
+use Rattle.broadcast.specs.Bytes.{log}
+use Rattle.rehearsal.specs.Promise.{rehearsal-verdict, Rehearsed}
+use Rattle.sheet.specs.declared.Header.{Header}
+use Rattle.sheet.specs.declared.Reading.{Reading}
+use Rattle.sheet.specs.declared.Reading.the-variants as reading
+use Rattle.sheet.specs.Layout.{header}
+use Rattle.sheet.specs.Judgement.{opening-verdict, chain-verdict, sheet-verdict}
+use Rattle.sheet.specs.Reading.{table-of, reading-by, Reads}
+use Rattle.sheet.proofs.PromiseLaws.{opening-sound, opening-length}
+use Rattle.listing.specs.Lines.{refused, num, lines-by, run}
+use Rattle.listing.specs.Text.{text, laid}
+use Rattle.listing.specs.Promise.{wanted, front, listing-verdict, listing, Lists}
+use Rattle.listing.specs.Loops.{Puts, Readable, Runs, ListsWhole}
+use Rattle.listing.proofs.TextLaws.{laid-front}
+
+pub or-accepted : (v : Verdict) → v or-else verdict.Accepted ≡ v
+or-accepted verdict.Accepted = refl
+or-accepted (verdict.Refused c) = refl
+
+-- ---- a run, listed
+
+module _ (h : Header) (table log₀ log₁ : List ℕ) {outcomes₀ outcomes₁ : List ℕ} {v : Verdict} (readable : Readable h table) (size : length outcomes₀ ≡ outcomes-length (h .n))
+    (r : Rehearsed (run h table) log₀ log₁ outcomes₀ outcomes₁ v) where
+  -- only cause 8 of the log is left
+  left : v ≡ exact-length (table-length (h .n) (h .t)) (length log₀)
+  unfolding rehearsal-verdict
+  left =
+      r .answer-is
+      ∙ rw (header-accepts (h .n) (h .t) (h .upper) (h .sender) (h .value) (h .marks) (readable .sound), length-accepts _ _ (readable .table-whole), length-accepts _ _ size)
+      (or-accepted (exact-length (table-length (h .n) (h .t)) (length log₀)))
+
+  module _ {text₀ text₁ : List ℕ} {answer : ℕ} where
+    pub runs-accepted : v ≡ verdict.Accepted → Puts text₀ text₁ 0 (text (lines-by verdict.Accepted h outcomes₁)) answer
+        → Runs h table log₀ log₁ text₀ text₁ answer
+    runs-accepted e p =
+        record { puts = rw (← left, e, ← rw e at (r .outcomes-are)) p; log-is = rw (← left) (r .log-is) }
+
+    pub runs-refused : (c : Cause) (k : ℕ) → v ≡ verdict.Refused c → k ≡ number c → Puts text₀ text₁ 0 (text ((refused ∷ num k ∷ []) ∷ [])) answer
+        → Runs h table log₀ log₁ text₀ text₁ answer
+    runs-refused c k e q p = record { puts = rw (← left, e, ← q) p; log-is = rw (← left) (r .log-is) }
+
+-- ---- a sheet, listed
+
+-- what the reader's answer says of its verdict
+read-accepted : (v : Verdict) (h k : Header) → reading.Accepted h ≡ reading-by v k → (v ≡ verdict.Accepted) × (h ≡ k)
+read-accepted verdict.Accepted h k e = (refl, cc)
+read-accepted (verdict.Refused c) h k e = let z : _≡_ {A = ℕ} 0 1 = cc in absurd (omega arith)
+
+read-refused : (v : Verdict) (c : Cause) (k : Header) → reading.Refused c ≡ reading-by v k → v ≡ verdict.Refused c
+read-refused verdict.Accepted c k e = let z : _≡_ {A = ℕ} 0 1 = cc in absurd (omega arith)
+read-refused (verdict.Refused d) c k e = cc
+
+module _ (s table₀ table₁ : List ℕ) {answer : Reading} (r : Reads s table₀ table₁ answer) where
+  module _ (h : Header) (e : answer ≡ reading.Accepted h) where
+    both : (sheet-verdict s (length table₀) (r .fate) ≡ verdict.Accepted) × (h ≡ header s)
+    both = read-accepted (sheet-verdict s (length table₀) (r .fate)) h (header s) (sym e ∙ r .answer-is)
+
+    opened : opening-verdict s (length table₀) ≡ verdict.Accepted
+    unfolding sheet-verdict
+    opened = both-accepted (opening-verdict s (length table₀)) (chain-verdict s (r .fate)) (both .0) .0
+
+    -- an accepted sheet's header is sound, and its table has the line's length
+    pub accepted-readable : length table₁ ≡ length table₀ → Readable h table₁
+    accepted-readable q =
+        rw (both .1)
+        (record { sound = opening-sound s _ opened; table-whole = q ∙ opening-length s _ opened })
+
+    pub whole-accepted : (log₀ log₁ text₀ text₁ : List ℕ) (n : ℕ) → Runs h table₁ log₀ log₁ text₀ text₁ n
+        → ListsWhole s table₀ table₁ log₀ log₁ text₀ text₁ n
+    unfolding listing-verdict listing
+    whole-accepted log₀ log₁ text₀ text₁ n runs =
+        let t = rw (both .0) at (r .table-is) in
+        record {
+          fate = r .fate;
+          puts = rw (both .0, ← both .1, ← t) (runs .puts);
+          table-is = r .table-is;
+          log-is = rw (both .0, ← both .1, ← t) (runs .log-is);
+        }
+
+  pub whole-refused : (c : Cause) (k : ℕ) → answer ≡ reading.Refused c → k ≡ number c → (log₀ text₀ text₁ : List ℕ) (n : ℕ)
+      → Puts text₀ text₁ 0 (text ((refused ∷ num k ∷ []) ∷ [])) n → ListsWhole s table₀ table₁ log₀ log₀ text₀ text₁ n
+  unfolding listing-verdict listing
+  whole-refused c k e q log₀ text₀ text₁ n p =
+      let v = read-refused (sheet-verdict s (length table₀) (r .fate)) c (header s) (sym e ∙ r .answer-is) in
+      record { fate = r .fate; puts = rw (v, ← q) p; table-is = r .table-is; log-is = rw v }
+
+-- ---- buffers lent in part
+
+-- what is written in a front, as said of the whole
+whole-of : (v : Verdict) (new old part : List ℕ) (k : ℕ) → k ≤ length old → length part ≡ k → part ≡ written v new (take k old)
+    → part ++ drop k old ≡ written v (laid old 0 new) old
+whole-of verdict.Accepted new old part k h q e = laid-front part old k q h ∙ rw e
+whole-of (verdict.Refused c) new old part k h q e = rw e (take-append-drop k old)
+
+front-length : (s l : List ℕ) (k : ℕ) → k ≤ length l → k ≡ min (wanted s) (length l) → length (take k l) ≡ front s (length l)
+unfolding front
+front-length s l k h e = length-take-le k l h ∙ e
+
+module _ (s table₀ table log₀ bytes text₀ text₁ : List ℕ) (answer a b : ℕ) (ha : a ≤ length table₀) (hb : b ≤ length log₀)
+    (ea : a ≡ min (wanted s) (length table₀)) (eb : b ≡ min (wanted s) (length log₀))
+    (ka : length table ≡ length (take a table₀)) (kb : length bytes ≡ length (take b log₀)) where
+  pub lists-parts : ListsWhole s (take a table₀) table (take b log₀) bytes text₀ text₁ answer
+      → Lists s table₀ (table ++ drop a table₀) log₀ (bytes ++ drop b log₀) text₀ text₁ answer
+  lists-parts w =
+      let fa = front-length s table₀ a ha ea in
+      let fb = front-length s log₀ b hb eb in
+      let f = w .fate in
+      record {
+        fate = f;
+        answer-is = rw (← fa, ← fb) (omega (arith, w .puts .answer-is));
+        text-is = rw (← fa, ← fb) (w .puts .text-is);
+        table-is =
+            rw (← fa)
+            (whole-of (sheet-verdict s (length (take a table₀)) f) (table-of s f) table₀ table a ha (ka ∙ length-take-le a table₀ ha) (w .table-is));
+        log-is =
+            rw (← fa, ← fb)
+            (whole-of (listing-verdict s (length (take a table₀)) (length (take b log₀)) f) (log (run (header s) (table-of s f))) log₀ bytes b hb (kb ∙ length-take-le b log₀ hb) (w .log-is));
+      }

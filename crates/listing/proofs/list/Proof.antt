@@ -1,0 +1,64 @@
+-- `list` meets its contract: what is said of the fronts is said of the whole buffers.
+use borrow.Author.Needs.{needs}
+use mathlib.Core.Path.{sym}
+use lib.Seq.{length-take-le}
+use Rattle.listing.proofs.ListingLaws.{lists-parts}
+use Rattle.listing.proofs.list.Statement.{statement}
+use Rattle.listing.proofs.list.Tie as tie
+
+wanted-requires : tie.Need-wanted-requires
+wanted-requires c κs = search needs
+
+within-requires : tie.Need-within-requires
+within-requires c κs = search needs
+
+within-requires-2 : tie.Need-within-requires-2
+within-requires-2 c κs = search needs
+
+slice-relend-prefix-list-whole : tie.Need-slice-relend-prefix-list-whole
+slice-relend-prefix-list-whole c = search needs
+
+slice-aggregate-list-whole : tie.Need-slice-aggregate-list-whole
+slice-aggregate-list-whole c = sym (length-take-le _ _ (c .before .before .within .ensures .1))
+
+slice-relend-prefix-list-whole-2 : tie.Need-slice-relend-prefix-list-whole-2
+slice-relend-prefix-list-whole-2 c = search needs
+
+slice-aggregate-list-whole-2 : tie.Need-slice-aggregate-list-whole-2
+slice-aggregate-list-whole-2 c = sym (length-take-le _ _ (c .before .before .within2 .ensures .1))
+
+list-whole-requires : tie.Need-list-whole-requires
+list-whole-requires c κs = search needs
+
+same-length : tie.Need-same-length
+same-length c = search needs
+
+same-length-2 : tie.Need-same-length-2
+same-length-2 c = search needs
+
+same-length-3 : tie.Need-same-length-3
+same-length-3 c = search needs
+
+returns : tie.Need-returns
+returns c =
+    let a = c .before .before .before .before .before .before .before .before .before .before .before .within .ensures in
+    let b = c .before .before .before .before .before .before .before .before .before .before .within2 .ensures in
+    let w = c .before .before .before .before .before .before .before .before .before .before .before .before .wanted .ensures in
+    lists-parts _ _ _ _ _ _ _ _ _ _ (a .1) (b .1) (rw w at (a .0)) (rw w at (b .0)) (c .before .before .before .before .before .before .list-whole .kept .1 .0) (c .before .before .before .before .before .before .list-whole .kept .1 .1 .0) (c .before .before .before .before .before .before .list-whole .ensures)
+
+pub list-spec : {M : Type 1} → statement M
+list-spec =
+    tie.close
+    (tie.spec
+    wanted-requires
+    within-requires
+    within-requires-2
+    slice-relend-prefix-list-whole
+    slice-aggregate-list-whole
+    slice-relend-prefix-list-whole-2
+    slice-aggregate-list-whole-2
+    list-whole-requires
+    same-length
+    same-length-2
+    same-length-3
+    returns)

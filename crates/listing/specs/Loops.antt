@@ -1,0 +1,49 @@
+-- What the private functions of the listing do: for their contracts, and no part of what the public call promises.
+use Prim.Native.Nat.{ℕ, _+_, _*_, _≤_}
+use mathlib.Core.Path.{_≡_}
+use mathlib.Core.List.{List}
+use lib.ListN.{length}
+use Rattle.line.specs.Line.{table-length}
+use Rattle.line.specs.Cause.{written}
+use Rattle.line.specs.Header.{exact-length}
+use Rattle.broadcast.specs.Bytes.{log, outcomes}
+use Rattle.sheet.specs.declared.Header.{Header}
+use Rattle.sheet.specs.Layout.{header}
+use Rattle.sheet.specs.Chain.{Fate}
+use Rattle.sheet.specs.Judgement.{sheet-verdict}
+use Rattle.sheet.specs.Reading.{table-of}
+use Rattle.sheet.specs.Loops.{SoundHeader}
+use Rattle.listing.specs.Lines.{lines-by, run}
+use Rattle.listing.specs.Text.{text, laid}
+use Rattle.listing.specs.Promise.{listing-verdict, listing}
+
+-- ---- writing
+
+-- bytes are laid into the text from the place `at` on, and the answer is the place after them
+pub record Puts (text₀ text₁ : List ℕ) (at : ℕ) (bytes : List ℕ) (answer : ℕ) : Type 0 where
+  pub text-is : text₁ ≡ laid text₀ at bytes
+  pub answer-is : answer ≡ at + length bytes
+
+-- the outcomes of a line that has at most 32 stations
+pub record Shown (h : Header) (bytes : List ℕ) : Type 0 where
+  pub most : h .n ≤ 32
+  pub size : length bytes ≡ 3 * h .n
+
+-- ---- running
+
+-- a header that causes 2 to 6 let through, with a table of its line's length
+pub record Readable (h : Header) (table : List ℕ) : Type 0 where
+  pub sound : SoundHeader h
+  pub table-whole : length table ≡ table-length (h .n) (h .t)
+
+-- what is listed of a run, and its log; cause 8 of the log is the only one left
+pub record Runs (h : Header) (table log₀ log₁ text₀ text₁ : List ℕ) (answer : ℕ) : Type 0 where
+  pub puts : Puts text₀ text₁ 0 (text (lines-by (exact-length (table-length (h .n) (h .t)) (length log₀)) h (outcomes (run h table)))) answer
+  pub log-is : log₁ ≡ written (exact-length (table-length (h .n) (h .t)) (length log₀)) (log (run h table)) log₀
+
+-- the promise with buffers that are lent whole
+pub record ListsWhole (s table₀ table₁ log₀ log₁ text₀ text₁ : List ℕ) (answer : ℕ) : Type 0 where
+  pub fate : Fate s
+  pub puts : Puts text₀ text₁ 0 (listing s (length table₀) (length log₀) fate) answer
+  pub table-is : table₁ ≡ written (sheet-verdict s (length table₀) fate) (table-of s fate) table₀
+  pub log-is : log₁ ≡ written (listing-verdict s (length table₀) (length log₀) fate) (log (run (header s) (table-of s fate))) log₀
