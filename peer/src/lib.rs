@@ -9,6 +9,7 @@ pub mod draw;
 pub mod exchange;
 pub mod line;
 pub mod listing;
+pub mod lot;
 pub mod rehearsal;
 pub mod sheet;
 pub mod station;
