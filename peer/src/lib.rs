@@ -11,6 +11,7 @@ pub mod line;
 pub mod listing;
 pub mod lot;
 pub mod rehearsal;
+pub mod runs;
 pub mod sheet;
 pub mod station;
 pub mod text;

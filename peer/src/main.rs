@@ -6,6 +6,7 @@ use std::process::ExitCode;
 use peer::draw::draw;
 use peer::line::Cause;
 use peer::listing::{listing, run};
+use peer::runs::runs;
 use peer::{sheet, text};
 
 const USAGE: &str = "\
@@ -13,6 +14,7 @@ usage: peer listing [SHEET]    the listing of a run sheet
        peer sheet [TEXT]       the run sheet that a text stands for
        peer text [SHEET]       a run sheet as text, in the normal form
        peer draw [SHEET]       a drawing of the run, as SVG
+       peer runs [RUNS]        what the program of crate runs must print of stored runs
 A file that isn't named is read from standard input. What is made goes to standard output.";
 
 fn main() -> ExitCode {
@@ -28,6 +30,7 @@ fn main() -> ExitCode {
         "sheet" => make_sheet(file),
         "text" => make_text(file),
         "draw" => make_drawing(file),
+        "runs" => make_runs(file),
         _ => return usage(),
     };
     match made.and_then(|bytes| print(&bytes)) {
@@ -61,6 +64,10 @@ fn make_text(file: Option<&str>) -> Result<Vec<u8>, String> {
 fn make_drawing(file: Option<&str>) -> Result<Vec<u8>, String> {
     let run = run(&read_sheet(file)?).map_err(|cause| refused(file, cause))?;
     Ok(draw(&run).into_bytes())
+}
+
+fn make_runs(file: Option<&str>) -> Result<Vec<u8>, String> {
+    Ok(runs(&read_at_most(file, u64::MAX)?).into_bytes())
 }
 
 fn refused(file: Option<&str>, cause: Cause) -> String {

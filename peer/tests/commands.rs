@@ -55,6 +55,24 @@ fn refused_sheets() {
     assert_eq!(peer(&["draw"], &sheet), (1, vec![], said));
 }
 
+/// Case A with its table, then with one that is too short, then a run whose sheet ends too early.
+#[test]
+fn stored_runs() {
+    let mut stored = Vec::new();
+    for lent in [144, 143, 144] {
+        stored.extend([12, 0, lent, 0]);
+        stored.extend(CASE_A);
+    }
+    stored.pop();
+    let (status, printed, said) = peer(&["runs"], &stored);
+    assert_eq!((status, said.as_str()), (0, ""));
+    let printed = String::from_utf8(printed).unwrap();
+    let lines: Vec<&str> = printed.lines().collect();
+    assert_eq!(lines.len(), 2);
+    assert!(lines[0].starts_with("run 1: 4 1 1 1 1 8; table 2653487104; accepted: 1 2 0 1 2 0 "));
+    assert!(lines[1].starts_with("run 2: refused 8; table ") && !lines[1].contains("accepted"));
+}
+
 #[test]
 fn a_drawing() {
     let (status, drawing, said) = peer(&["draw"], &CASE_A);
