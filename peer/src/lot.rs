@@ -69,8 +69,22 @@ impl Lot {
         Header { n: line.n() as u8, t: line.t(), upper: line.upper(), sender, value, marks }
     }
 
+    /// A header that is accepted, with f near one of the thresholds.
+    pub fn header_near_thresholds(&mut self, most: u8) -> (Header, Line) {
+        let mut header = self.header(most);
+        let line = header.judge().expect("an accepted header");
+        let f = self.pick(&[header.t, header.upper, header.upper + 1]);
+        header.marks = self.marks(&line, u32::from(f.min(header.n)));
+        (header, line)
+    }
+
     /// A table's bytes, by one of several habits of bad stations.
     pub fn table(&mut self, line: &Line) -> Vec<u8> {
+        self.ballots(line, line.table_len())
+    }
+
+    /// As many bytes of a table.
+    pub fn ballots(&mut self, line: &Line, len: usize) -> Vec<u8> {
         let habit = self.below(5);
         let split = 1 + self.below(line.n() as u64) as usize;
         let byte = |lot: &mut Lot, place: usize| match habit {
@@ -80,12 +94,12 @@ impl Lot {
             3 => u8::from(place % line.n() < split) ^ u8::from(lot.one_in(20)),
             _ => lot.pick(&[0, 1, 1, 2]),
         };
-        (0..line.table_len()).map(|place| byte(self, place)).collect()
+        (0..len).map(|place| byte(self, place)).collect()
     }
 
     /// Records that the reader accepts with this header: all different, from bad stations.
     pub fn records(&mut self, header: &Header) -> Vec<Record> {
-        let line = header.judge().unwrap();
+        let line = header.judge().expect("an accepted header");
         let mut records = Vec::new();
         if header.marks.count() == 0 {
             return records;
