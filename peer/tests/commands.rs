@@ -99,3 +99,23 @@ fn usage() {
         assert!(said.starts_with("usage: peer listing"));
     }
 }
+
+#[cfg(not(feature = "verified"))]
+#[test]
+fn commands_that_are_not_built() {
+    let said = "peer: compare and bench need the feature verified\n".to_string();
+    assert_eq!(peer(&["compare", "1", "1"], &[]), (2, vec![], said.clone()));
+    assert_eq!(peer(&["bench"], &[]), (2, vec![], said));
+}
+
+#[cfg(feature = "verified")]
+#[test]
+fn comparing() {
+    let (status, printed, said) = peer(&["compare", "7", "3"], &[]);
+    assert_eq!((status, said.as_str()), (0, ""));
+    let printed = String::from_utf8(printed).unwrap();
+    assert!(printed.starts_with("seed 7, 3 turns; ") && printed.ends_with("\n8 passed, 0 failed\n"));
+    for words in [&["compare", "x"][..], &["compare", "1", "2", "3"], &["bench", "1"]] {
+        assert_eq!(peer(words, &[]).0, 2);
+    }
+}

@@ -78,7 +78,7 @@ impl Comparison {
         let mut said = Instant::now();
         for turn in 0..turns {
             comparison.turn(seed.wrapping_add(turn));
-            if said.elapsed() >= Duration::from_secs(2) {
+            if said.elapsed() >= Duration::from_secs(5) {
                 let different = comparison.different();
                 eprintln!("peer compare: turn {turn} of {turns}, {different} inputs with a difference");
                 said = Instant::now();
