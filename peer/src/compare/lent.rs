@@ -58,3 +58,30 @@ pub fn difference(ours: u8, theirs: u8, lent: &[&Lending]) -> Option<String> {
     }
     lent.iter().find_map(|lending| lending.fault(ours != 0))
 }
+
+#[cfg(test)]
+mod tests {
+    use super::*;
+
+    #[test]
+    fn what_is_found_in_a_buffer() {
+        let mut lending = Lending::new(&mut Lot(1), "the table", 9);
+        assert_eq!(difference(8, 9, &[&lending]).unwrap(), "peer answers 8, verified 9");
+        assert_eq!(difference(8, 8, &[&lending]), None);
+        lending.theirs.bytes()[3] ^= 1;
+        assert_eq!(difference(8, 8, &[&lending]).unwrap(), "the table is written in a refused call");
+        assert!(difference(0, 0, &[&lending]).unwrap().starts_with("the table byte 3: peer "));
+        lending.ours.bytes()[3] ^= 1;
+        assert_eq!(difference(0, 0, &[&lending]), None);
+        assert_eq!(difference(8, 8, &[&lending]).unwrap(), "the table is written in a refused call");
+    }
+
+    #[test]
+    fn bytes_around_a_buffer() {
+        let mut lending = Lending::new(&mut Lot(1), "the log", 9);
+        lending.theirs.0[AROUND + 9] ^= 1;
+        assert!(difference(0, 0, &[&lending]).unwrap().starts_with("the log byte 9: peer "));
+        lending.theirs.0[AROUND - 1] ^= 1;
+        assert!(difference(0, 0, &[&lending]).unwrap().starts_with("the log byte -1: peer "));
+    }
+}

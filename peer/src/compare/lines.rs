@@ -18,7 +18,7 @@ pub fn header(lot: &mut Lot) -> Header {
     let mut header = if lot.one_in(2) { lot.header(32) } else { lot.header_near_thresholds(32).0 };
     if lot.one_in(4) {
         spoil(lot, &mut header);
-        while lot.one_in(3) {
+        while lot.one_in(2) {
             spoil(lot, &mut header);
         }
     }

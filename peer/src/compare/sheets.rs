@@ -108,7 +108,7 @@ fn loose(lot: &mut Lot) -> Vec<u8> {
 fn damaged(lot: &mut Lot) -> Vec<u8> {
     let mut sheet = accepted(lot);
     damage(lot, &mut sheet);
-    while lot.one_in(3) {
+    while lot.one_in(2) {
         damage(lot, &mut sheet);
     }
     sheet
