@@ -5,11 +5,19 @@
 
 #![deny(unsafe_code)]
 
+#[cfg(feature = "verified")]
+pub mod bench;
+#[cfg(feature = "verified")]
+pub mod compare;
 pub mod draw;
 pub mod exchange;
+#[cfg(feature = "verified")]
+pub mod ffi;
 pub mod line;
 pub mod listing;
+pub mod lot;
 pub mod rehearsal;
+pub mod runs;
 pub mod sheet;
 pub mod station;
 pub mod text;

@@ -6,6 +6,7 @@ use std::process::ExitCode;
 use peer::draw::draw;
 use peer::line::Cause;
 use peer::listing::{listing, run};
+use peer::runs::runs;
 use peer::{sheet, text};
 
 const USAGE: &str = "\
@@ -13,30 +14,83 @@ usage: peer listing [SHEET]    the listing of a run sheet
        peer sheet [TEXT]       the run sheet that a text stands for
        peer text [SHEET]       a run sheet as text, in the normal form
        peer draw [SHEET]       a drawing of the run, as SVG
-A file that isn't named is read from standard input. What is made goes to standard output.";
+       peer runs [RUNS]        what the program of crate runs must print of stored runs
+A file that isn't named is read from standard input. What is made goes to standard output.
+
+Built with the feature verified:
+       peer compare [SEED] [TURNS]    the verified calls compared with this program's answers
+       peer bench                     how long both take";
 
 fn main() -> ExitCode {
     let words: Vec<String> = std::env::args().skip(1).collect();
-    let Some((command, files)) = words.split_first() else { return usage() };
-    let file = match files {
+    let Some((command, rest)) = words.split_first() else { return usage() };
+    match command.as_str() {
+        "compare" => verified::compare(rest).unwrap_or_else(usage),
+        "bench" => verified::bench(rest).unwrap_or_else(usage),
+        _ => make(command, rest).unwrap_or_else(usage),
+    }
+}
+
+/// Runs a command that makes something of a file. None where there is no such command.
+fn make(command: &str, rest: &[String]) -> Option<ExitCode> {
+    let file = match rest {
         [] => None,
         [file] => Some(file.as_str()),
-        _ => return usage(),
+        _ => return None,
     };
-    let made = match command.as_str() {
+    let made = match command {
         "listing" => make_listing(file),
         "sheet" => make_sheet(file),
         "text" => make_text(file),
         "draw" => make_drawing(file),
-        _ => return usage(),
+        "runs" => make_runs(file),
+        _ => return None,
     };
-    match made.and_then(|bytes| print(&bytes)) {
+    Some(match made.and_then(|bytes| print(&bytes)) {
         Ok(()) => ExitCode::SUCCESS,
         Err(message) => {
             eprintln!("peer: {message}");
             ExitCode::FAILURE
         }
+    })
+}
+
+/// The commands on the verified implementation. None where the words after the command are wrong.
+#[cfg(feature = "verified")]
+mod verified {
+    use super::ExitCode;
+    use peer::compare::Comparison;
+
+    pub fn compare(words: &[String]) -> Option<ExitCode> {
+        let number = |place: usize, default: u64| words.get(place).map_or(Ok(default), |word| word.parse());
+        let (seed, turns) = (number(0, 1).ok()?, number(1, 10_000).ok()?);
+        if words.len() > 2 {
+            return None;
+        }
+        let comparison = Comparison::run(seed, turns);
+        print!("{}", comparison.report());
+        Some(if comparison.failed() == 0 { ExitCode::SUCCESS } else { ExitCode::FAILURE })
     }
+
+    pub fn bench(words: &[String]) -> Option<ExitCode> {
+        words.is_empty().then(|| {
+            peer::bench::report(&mut |line| println!("{line}"));
+            ExitCode::SUCCESS
+        })
+    }
+}
+
+/// Stands for these commands where they aren't built.
+#[cfg(not(feature = "verified"))]
+mod verified {
+    use super::ExitCode;
+
+    pub fn compare(_: &[String]) -> Option<ExitCode> {
+        eprintln!("peer: compare and bench need the feature verified");
+        Some(ExitCode::from(2))
+    }
+
+    pub use compare as bench;
 }
 
 fn usage() -> ExitCode {
@@ -61,6 +115,10 @@ fn make_text(file: Option<&str>) -> Result<Vec<u8>, String> {
 fn make_drawing(file: Option<&str>) -> Result<Vec<u8>, String> {
     let run = run(&read_sheet(file)?).map_err(|cause| refused(file, cause))?;
     Ok(draw(&run).into_bytes())
+}
+
+fn make_runs(file: Option<&str>) -> Result<Vec<u8>, String> {
+    Ok(runs(&read_at_most(file, u64::MAX)?).into_bytes())
 }
 
 fn refused(file: Option<&str>, cause: Cause) -> String {

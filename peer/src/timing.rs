@@ -10,29 +10,46 @@ pub struct Nanoseconds {
     pub median: f64,
 }
 
-/// Times a call over many samples. A sample makes the call so often that the clock's own step does not
-/// count, so a short call is timed as well as a long one. What the call returns is not optimised away.
-pub fn time<R>(samples: usize, mut call: impl FnMut() -> R) -> Nanoseconds {
-    let calls = calls_for(Duration::from_micros(200), &mut call);
-    let mut times: Vec<f64> =
-        (0..samples.max(1)).map(|_| sample(calls, &mut call) / f64::from(calls)).collect();
-    times.sort_by(f64::total_cmp);
-    Nanoseconds { least: times[0], median: times[times.len() / 2] }
+/// Gives the nanoseconds of so many calls.
+pub type Sample<'a> = Box<dyn FnMut(u32) -> f64 + 'a>;
+
+/// A call that can be timed. What it returns is not optimised away.
+pub fn sample<'a, R>(mut call: impl FnMut() -> R + 'a) -> Sample<'a> {
+    Box::new(move |calls| {
+        let began = Instant::now();
+        for _ in 0..calls {
+            black_box(call());
+        }
+        began.elapsed().as_nanos() as f64
+    })
 }
 
-/// Nanoseconds of so many calls.
-fn sample<R>(calls: u32, call: &mut impl FnMut() -> R) -> f64 {
-    let began = Instant::now();
-    for _ in 0..calls {
-        black_box(call());
+/// Times a call over many samples.
+pub fn time<R>(samples: usize, call: impl FnMut() -> R) -> Nanoseconds {
+    let [timed] = time_in_turn(samples, [sample(call)]);
+    timed
+}
+
+/// Times several calls, a sample of each after the other, so that a slow moment of the machine meets all. A
+/// sample makes its call so often that the clock's own step does not count.
+pub fn time_in_turn<const N: usize>(samples: usize, mut calls: [Sample; N]) -> [Nanoseconds; N] {
+    let often = calls.each_mut().map(|call| calls_for(Duration::from_micros(200), call));
+    let mut times: [Vec<f64>; N] = std::array::from_fn(|_| Vec::new());
+    for _ in 0..samples.max(1) {
+        for ((call, often), times) in calls.iter_mut().zip(often).zip(&mut times) {
+            times.push(call(often) / f64::from(often));
+        }
     }
-    began.elapsed().as_nanos() as f64
+    times.map(|mut times| {
+        times.sort_by(f64::total_cmp);
+        Nanoseconds { least: times[0], median: times[times.len() / 2] }
+    })
 }
 
 /// How many calls take at least this long. Finding it also warms the caches.
-fn calls_for<R>(least: Duration, call: &mut impl FnMut() -> R) -> u32 {
+fn calls_for(least: Duration, call: &mut Sample) -> u32 {
     let mut calls = 1;
-    while sample(calls, call) < least.as_nanos() as f64 && calls < 1 << 30 {
+    while call(calls) < least.as_nanos() as f64 && calls < 1 << 30 {
         calls *= 2;
     }
     calls

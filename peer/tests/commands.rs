@@ -55,6 +55,24 @@ fn refused_sheets() {
     assert_eq!(peer(&["draw"], &sheet), (1, vec![], said));
 }
 
+/// Case A with its table, then with one that is too short, then a run whose sheet ends too early.
+#[test]
+fn stored_runs() {
+    let mut stored = Vec::new();
+    for lent in [144, 143, 144] {
+        stored.extend([12, 0, lent, 0]);
+        stored.extend(CASE_A);
+    }
+    stored.pop();
+    let (status, printed, said) = peer(&["runs"], &stored);
+    assert_eq!((status, said.as_str()), (0, ""));
+    let printed = String::from_utf8(printed).unwrap();
+    let lines: Vec<&str> = printed.lines().collect();
+    assert_eq!(lines.len(), 2);
+    assert!(lines[0].starts_with("run 1: 4 1 1 1 1 8; table 2653487104; accepted: 1 2 0 1 2 0 "));
+    assert!(lines[1].starts_with("run 2: refused 8; table ") && !lines[1].contains("accepted"));
+}
+
 #[test]
 fn a_drawing() {
     let (status, drawing, said) = peer(&["draw"], &CASE_A);
@@ -79,5 +97,25 @@ fn usage() {
         let (status, printed, said) = peer(words, &[]);
         assert_eq!((status, printed), (2, vec![]));
         assert!(said.starts_with("usage: peer listing"));
+    }
+}
+
+#[cfg(not(feature = "verified"))]
+#[test]
+fn commands_that_are_not_built() {
+    let said = "peer: compare and bench need the feature verified\n".to_string();
+    assert_eq!(peer(&["compare", "1", "1"], &[]), (2, vec![], said.clone()));
+    assert_eq!(peer(&["bench"], &[]), (2, vec![], said));
+}
+
+#[cfg(feature = "verified")]
+#[test]
+fn comparing() {
+    let (status, printed, said) = peer(&["compare", "7", "3"], &[]);
+    assert_eq!((status, said.as_str()), (0, ""));
+    let printed = String::from_utf8(printed).unwrap();
+    assert!(printed.starts_with("seed 7, 3 turns; ") && printed.ends_with("\n8 passed, 0 failed\n"));
+    for words in [&["compare", "x"][..], &["compare", "1", "2", "3"], &["bench", "1"]] {
+        assert_eq!(peer(words, &[]).0, 2);
     }
 }

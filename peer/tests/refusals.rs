@@ -18,14 +18,6 @@ fn lowest(causes: &[(u8, bool)]) -> u8 {
     causes.iter().filter(|(_, holds)| *holds).map(|(number, _)| *number).min().unwrap_or(0)
 }
 
-/// Numbers of a line that are often near the edge of what is allowed.
-fn edge_numbers(lot: &mut Lot) -> (u8, u8, u8) {
-    let n = lot.pick(&[0, 1, 2, 3, 4, 5, 7, 31, 32, 33, 255]);
-    let t: u8 = lot.pick(&[0, 0, 1, 1, 2, 10, 11, 255]);
-    let upper = lot.pick(&[t, t, t.wrapping_sub(1), t.wrapping_add(1), 0, 15, 16]);
-    (n, t, upper)
-}
-
 fn no_stations(n: u8) -> bool {
     n == 0 || n > 32
 }
@@ -34,23 +26,8 @@ fn no_thresholds(n: u8, t: u8, upper: u8) -> bool {
     t > upper || i32::from(t) + 2 * i32::from(upper) >= i32::from(n)
 }
 
-/// Marks that are often near bit n.
-fn edge_marks(lot: &mut Lot, n: u8) -> u32 {
-    let near = 1u64 << n.min(32);
-    lot.pick(&[0, 1, near - 1, near, near >> 1]) as u32
-}
-
 fn mark_beyond(n: u8, marks: u32) -> bool {
     (u32::from(n)..32).any(|bit| marks >> bit & 1 == 1)
-}
-
-/// A length that is now and then one off.
-fn near(lot: &mut Lot, exact: usize) -> usize {
-    match lot.below(9) {
-        0 => exact + 1,
-        1 => exact.saturating_sub(1),
-        _ => exact,
-    }
 }
 
 /// The exact lengths of table and outcomes; any numbers where the line is refused.
@@ -66,14 +43,14 @@ fn rehearsals() {
     let mut lot = Lot(1);
     let mut seen = [0; 14];
     for _ in 0..30_000 {
-        let (n, t, upper) = edge_numbers(&mut lot);
+        let (n, t, upper) = lot.edge_numbers();
         let sender = lot.pick(&[1, 1, n, n, 0, n.wrapping_add(1)]);
         let value = lot.pick(&[0, 1, 0, 1, 2, 255]);
-        let marks = edge_marks(&mut lot, n);
+        let marks = lot.edge_marks(n);
         let (exact, three) = lengths(n, t, 3 * usize::from(t) + 6);
-        let table = vec![1; near(&mut lot, exact)];
-        let mut log = vec![99; near(&mut lot, exact)];
-        let mut outcomes = vec![99; near(&mut lot, three)];
+        let table = vec![1; lot.near(exact)];
+        let mut log = vec![99; lot.near(exact)];
+        let mut outcomes = vec![99; lot.near(three)];
         let expected = lowest(&[
             (2, no_stations(n)),
             (3, no_thresholds(n, t, upper)),
@@ -96,16 +73,16 @@ fn exchanges() {
     let mut lot = Lot(2);
     let mut seen = [0; 14];
     for _ in 0..30_000 {
-        let (n, t, upper) = edge_numbers(&mut lot);
-        let marks = edge_marks(&mut lot, n);
+        let (n, t, upper) = lot.edge_numbers();
+        let marks = lot.edge_marks(n);
         let (exact, three) = lengths(n, t, 2);
-        let mut inputs = vec![1; near(&mut lot, usize::from(n))];
+        let mut inputs = vec![1; lot.near(usize::from(n))];
         if lot.one_in(2) && !inputs.is_empty() {
             let at = lot.below(inputs.len() as u64) as usize;
             inputs[at] = lot.pick(&[0, 2, 255]);
         }
-        let table = vec![1; near(&mut lot, exact)];
-        let mut outcomes = vec![99; near(&mut lot, three)];
+        let table = vec![1; lot.near(exact)];
+        let mut outcomes = vec![99; lot.near(three)];
         let input_off =
             inputs.iter().enumerate().any(|(i, &input)| input > 1 && (i > 31 || marks >> i & 1 == 0));
         let inputs_off_length = inputs.len() != usize::from(n);
@@ -129,7 +106,7 @@ fn opening() {
     let mut lot = Lot(3);
     let mut seen = [0; 14];
     for _ in 0..30_000 {
-        let (n, t, upper) = edge_numbers(&mut lot);
+        let (n, t, upper) = lot.edge_numbers();
         let sender = lot.pick(&[1, 1, n, n, 0, n.wrapping_add(1)]);
         let own = lot.pick(&[1, 1, n, n, 0, n.wrapping_add(1)]);
         let value = lot.pick(&[0, 1, 2, 255]);
@@ -154,7 +131,7 @@ fn station_states() {
     let mut lot = Lot(4);
     let mut seen = [0; 14];
     for _ in 0..60_000 {
-        let (n, t, upper) = edge_numbers(&mut lot);
+        let (n, t, upper) = lot.edge_numbers();
         let sender = lot.pick(&[1, 1, 1, n, n, 0, n.wrapping_add(1)]);
         let own = lot.pick(&[1, 1, 1, n, n, 0, n.wrapping_add(1)]);
         let last = t.wrapping_mul(3).wrapping_add(6);
@@ -163,7 +140,7 @@ fn station_states() {
         let grade = lot.pick(&[0, 1, 2, 2, 3]);
         let station = Station::from_bytes([n, t, upper, sender, own, round, value, z, grade]);
         let done = round == last.wrapping_add(1);
-        let row = vec![1; near(&mut lot, usize::from(n))];
+        let row = vec![1; lot.near(usize::from(n))];
         let mut causes = vec![
             (2, no_stations(n)),
             (3, no_thresholds(n, t, upper)),

@@ -44,21 +44,12 @@ fn guarantees(header: &Header, outcomes: &[u8]) {
     }
 }
 
-/// A header with at most `most` stations and f near one of the thresholds.
-fn near_thresholds(lot: &mut Lot, most: u8) -> (Header, Line) {
-    let mut header = lot.header(most);
-    let line = header.judge().unwrap();
-    let f = lot.pick(&[header.t, header.upper, header.upper + 1]);
-    header.marks = lot.marks(&line, u32::from(f.min(header.n)));
-    (header, line)
-}
-
 #[test]
 fn demand_3() {
     let mut lot = Lot(10);
     let (mut flags, mut splits) = (0, 0);
     for _ in 0..60_000 {
-        let (header, line) = near_thresholds(&mut lot, 9);
+        let (header, line) = lot.header_near_thresholds(9);
         let (_, outcomes) = run(&header, &lot.table(&line));
         guarantees(&header, &outcomes);
         let decided = decided(&header, &outcomes);
@@ -72,7 +63,7 @@ fn demand_3() {
 fn demand_3_on_long_lines() {
     let mut lot = Lot(11);
     for _ in 0..500 {
-        let (header, line) = near_thresholds(&mut lot, 32);
+        let (header, line) = lot.header_near_thresholds(32);
         let (_, outcomes) = run(&header, &lot.table(&line));
         guarantees(&header, &outcomes);
     }

@@ -1,0 +1,117 @@
+//! How long the verified calls take beside this implementation's, on the same inputs, in turn.
+//!
+//! The times are a machine's; the ratios of the medians are what can be compared.
+
+use std::hint::black_box;
+
+use crate::ffi;
+use crate::line::{Header, Line, Marks};
+use crate::lot::Lot;
+use crate::rehearsal::rehearse;
+use crate::sheet::{self, Record, RECORDS};
+use crate::station::Station;
+use crate::timing::{sample, time_in_turn, Nanoseconds, Sample};
+
+const SAMPLES: usize = 401;
+
+/// The largest line: n 32, t and T 10, with this many bad stations, the sender not among them.
+fn largest(bad: u32) -> (Header, Line) {
+    let marks = Marks((u64::from(u32::MAX) << (32 - bad)) as u32);
+    let header = Header { n: 32, t: 10, upper: 10, sender: 1, value: 1, marks };
+    (header, header.judge().expect("the largest line"))
+}
+
+/// Copying as many bytes.
+fn copy<'a>(from: &'a [u8], to: &'a mut [u8]) -> Sample<'a> {
+    sample(move || black_box(&mut *to).copy_from_slice(black_box(from)))
+}
+
+/// Medians of the verified call, of this implementation's and of the floor.
+fn line(name: &str, [verified, peer, floor]: [Nanoseconds; 3]) -> String {
+    let ratio = |a: Nanoseconds, b: Nanoseconds| a.median / b.median;
+    let times = format!("{:>11.1}{:>11.1}{:>11.1}", verified.median, peer.median, floor.median);
+    let ratios = [ratio(verified, peer), ratio(verified, floor), ratio(peer, floor)];
+    format!("{name:<36}{times}{:>15.2}{:>16.2}{:>12.2}", ratios[0], ratios[1], ratios[2])
+}
+
+/// A rehearsal of the largest line. The floor is copying the log.
+fn rehearsal(bad: u32) -> [Nanoseconds; 3] {
+    let (header, line) = largest(bad);
+    let table = Lot(1).table(&line);
+    let mut logs = [0, 1, 2].map(|_| vec![0; line.table_len()]);
+    let mut outcomes = [0, 1].map(|_| vec![0; line.outcomes_len()]);
+    let ([log, own_log, copied], [out, own_out]) = (&mut logs, &mut outcomes);
+    let timed = time_in_turn(
+        SAMPLES,
+        [
+            sample(|| ffi::rehearse(black_box(&header), black_box(&table), log, out)),
+            sample(|| rehearse(black_box(&header), black_box(&table), own_log, own_out)),
+            copy(&table, copied),
+        ],
+    );
+    assert!(logs[0] == logs[1] && outcomes[0] == outcomes[1], "the rehearsals differ");
+    timed
+}
+
+/// A sheet of the largest line with this many chained records.
+fn sheet_of(count: usize) -> (Vec<u8>, Line) {
+    let (header, line) = largest(10);
+    let bad: Vec<u8> = line.stations().filter(|&from| header.marks.bad(from)).collect();
+    let place = |round| bad.iter().flat_map(move |&from| (1..=32).map(move |to| (round, from, to)));
+    let places = (1..=line.rounds()).flat_map(place).take(count);
+    let records = places.map(|(round, from, to)| Record { round, from, to, ballot: round % 3 });
+    (sheet::write(&header, &records.collect::<Vec<_>>()), line)
+}
+
+/// Reading a sheet with this many records. The floor is copying the table.
+fn reader(count: usize) -> [Nanoseconds; 3] {
+    let (sheet, line) = sheet_of(count);
+    let mut tables = [0, 1, 2, 3].map(|_| vec![0; line.table_len()]);
+    let [table, own_table, from, to] = &mut tables;
+    let timed = time_in_turn(
+        SAMPLES,
+        [
+            sample(|| ffi::read(black_box(&sheet), table)),
+            sample(|| sheet::read(black_box(&sheet), own_table)),
+            copy(from, to),
+        ],
+    );
+    assert!(tables[0] == tables[1] && tables[0] != tables[2], "the tables differ");
+    timed
+}
+
+/// A station of the largest line takes a row in this round. The floor is copying the row.
+fn step(round: u8) -> [Nanoseconds; 3] {
+    let (header, line) = largest(10);
+    let numbers = (header.n, header.t, header.upper);
+    let opened = Station::open(numbers, header.sender, 7, 1).expect("a station");
+    let station = Station { round, ..opened };
+    let row = Lot(round.into()).ballots(&line, line.n());
+    let next = station.take(&row).expect("a running station");
+    assert_eq!(ffi::advance(&station, &row), u64::from(ffi::state(&next)), "the stations differ");
+    let mut copied = row.clone();
+    time_in_turn(
+        SAMPLES,
+        [
+            sample(|| ffi::advance(black_box(&station), black_box(&row))),
+            sample(|| black_box(&station).take(black_box(&row))),
+            copy(&row, &mut copied),
+        ],
+    )
+}
+
+/// Gives the report line by line.
+pub fn report(say: &mut impl FnMut(String)) {
+    let times = format!("{:>11}{:>11}{:>11}", "verified", "peer", "copying");
+    let ratios = format!("{:>15}{:>16}{:>12}", "verified/peer", "verified/copy", "peer/copy");
+    say(format!("{:<36}{times}{ratios}", "median nanoseconds, and their ratios"));
+    for bad in [0, 10, 32] {
+        say(line(&format!("rehearsal, n 32, t 10, {bad} marked"), rehearsal(bad)));
+    }
+    for count in [RECORDS, 0] {
+        say(line(&format!("reader, n 32, t 10, {count} records"), reader(count)));
+    }
+    for (round, name) in [(1, "sender's"), (2, "exchange's first"), (3, "exchange's second"), (4, "king's")] {
+        say(line(&format!("station, row of 32, {name}"), step(round)));
+    }
+}

@@ -1,0 +1,118 @@
+//! The calls on whole lines compared: the rehearsal and the exchange had alone.
+
+use super::input::Told;
+use super::lent::{difference, Lending};
+use super::Compared;
+use crate::exchange::alone;
+use crate::ffi;
+use crate::line::{Cause, Header, Line};
+use crate::lot::Lot;
+use crate::rehearsal;
+
+fn number(answer: Result<(), Cause>) -> u8 {
+    answer.map_or_else(Cause::number, |()| 0)
+}
+
+/// A header that is accepted, or one that is spoilt.
+pub fn header(lot: &mut Lot) -> Header {
+    let mut header = if lot.one_in(2) { lot.header(32) } else { lot.header_near_thresholds(32).0 };
+    if lot.one_in(4) {
+        spoil(lot, &mut header);
+        while lot.one_in(2) {
+            spoil(lot, &mut header);
+        }
+    }
+    header
+}
+
+/// Changes one of a header's numbers, mostly to one that is refused.
+pub fn spoil(lot: &mut Lot, header: &mut Header) {
+    let byte = lot.byte();
+    match lot.below(7) {
+        0 => header.n = lot.pick(&[0, 33, 255, header.n.wrapping_sub(1), byte]),
+        1 => header.t = lot.pick(&[header.upper.wrapping_add(1), header.t.wrapping_add(1), byte]),
+        2 => {
+            header.upper =
+                lot.pick(&[header.n / 2, header.upper.wrapping_add(1), header.t.wrapping_sub(1), byte])
+        }
+        3 => (header.n, header.t, header.upper) = lot.edge_numbers(),
+        4 => header.sender = lot.pick(&[0, header.n.wrapping_add(1), header.n, byte]),
+        5 => header.value = lot.pick(&[2, 255, byte]),
+        _ => header.marks.0 ^= lot.edge_marks(header.n),
+    }
+}
+
+/// A length that is now and then another.
+fn len(lot: &mut Lot, exact: usize) -> usize {
+    match lot.below(60) {
+        0 => exact + 1,
+        1 => exact.saturating_sub(1),
+        2 => lot.pick(&[0, 1, exact / 2, 2 * exact]),
+        _ => exact,
+    }
+}
+
+/// The line of a header's numbers, another one where they are refused.
+fn line_of((n, t, upper): (u8, u8, u8)) -> Line {
+    Line::new(n, t, upper).unwrap_or_else(|_| Line::new(4, 1, 1).expect("a line"))
+}
+
+pub fn rehearse(lot: &mut Lot) -> Compared {
+    let header = header(lot);
+    let line = line_of((header.n, header.t, header.upper));
+    let [table, log] = [len(lot, line.table_len()), len(lot, line.table_len())];
+    let outcomes = len(lot, line.outcomes_len());
+    let table = lot.ballots(&line, table);
+    let mut log = Lending::new(lot, "the log", log);
+    let mut outcomes = Lending::new(lot, "the outcomes", outcomes);
+    let ours = rehearsal::rehearse(&header, &table, log.ours.bytes(), outcomes.ours.bytes());
+    let theirs = ffi::rehearse(&header, &table, log.theirs.bytes(), outcomes.theirs.bytes());
+    let number = number(ours);
+    let differs = difference(number, theirs, &[&log, &outcomes]);
+    let lengths = [log.theirs.bytes().len(), outcomes.theirs.bytes().len()].map(|len| len as u64);
+    let told = |what: String| {
+        let told = Told::new(&what).header(&header).bytes("table", &table);
+        told.number("log length", lengths[0]).number("outcomes length", lengths[1]).text()
+    };
+    Compared { number, difference: differs.map(told) }
+}
+
+/// An input for each station, near a threshold or not; of a good station now and then one that is refused.
+fn inputs(lot: &mut Lot, header: &Header, line: &Line) -> Vec<u8> {
+    let most = lot.below(2) as u8;
+    let others = lot.pick(&[line.n() as u64, 2 * u64::from(line.upper()) + 2, u64::from(line.t()) + 1]);
+    let odd = lot.one_in(6);
+    let input = |station: u8| {
+        let off = lot.below(line.n() as u64) < others.min(line.n() as u64) / 2;
+        let bit = most ^ u8::from(off);
+        let any = lot.ballot();
+        if header.marks.bad(station) || odd && lot.one_in(8) {
+            any
+        } else {
+            bit
+        }
+    };
+    line.stations().map(input).collect()
+}
+
+pub fn exchange(lot: &mut Lot) -> Compared {
+    let header = header(lot);
+    let numbers = (header.n, header.t, header.upper);
+    let line = line_of(numbers);
+    let mut inputs = inputs(lot, &header, &line);
+    let inputs_len = len(lot, line.n());
+    inputs.resize(inputs_len, lot.pick(&[0, 1, 2]));
+    let table = len(lot, 2 * line.round_len());
+    let table = lot.ballots(&line, table);
+    let outcomes = len(lot, line.outcomes_len());
+    let mut outcomes = Lending::new(lot, "the outcomes", outcomes);
+    let number = number(alone(numbers, header.marks, &inputs, &table, outcomes.ours.bytes()));
+    let theirs = ffi::exchange(numbers, header.marks.0, &inputs, &table, outcomes.theirs.bytes());
+    let differs = difference(number, theirs, &[&outcomes]);
+    let outcomes_len = outcomes.theirs.bytes().len() as u64;
+    let told = |what: String| {
+        let told = Told::new(&what).line(numbers).marks(header.marks).bytes("inputs", &inputs);
+        told.bytes("table", &table).number("outcomes length", outcomes_len).text()
+    };
+    Compared { number, difference: differs.map(told) }
+}

@@ -1,0 +1,114 @@
+//! The calls of one station compared, in any state.
+
+use super::input::Told;
+use super::lines::header;
+use super::Compared;
+use crate::ffi;
+use crate::line::Cause;
+use crate::lot::Lot;
+use crate::station::{Answer, Station};
+
+/// An answer as the verified call gives it: the number above, the values below.
+pub fn word(answer: Result<u32, Cause>, refused: u32) -> u64 {
+    match answer {
+        Ok(values) => u64::from(values),
+        Err(cause) => u64::from(cause.number()) << 32 | u64::from(refused),
+    }
+}
+
+pub fn result_values(answer: Answer) -> u32 {
+    u32::from_le_bytes(match answer {
+        Answer::Running { round } => [0, round, 0, 0],
+        Answer::Done { value, grade, flag } => [1, value, grade, flag],
+    })
+}
+
+/// What differs between two answers, if anything does.
+fn difference(ours: u64, theirs: u64) -> Option<String> {
+    (ours != theirs).then(|| format!("peer answers {ours:#x}, verified {theirs:#x}"))
+}
+
+fn compared(ours: u64, theirs: u64, told: impl FnOnce(Told) -> Told) -> Compared {
+    let difference = difference(ours, theirs).map(|what| told(Told::new(&what)).text());
+    Compared { number: (ours >> 32) as u8, difference }
+}
+
+/// A station's number, now and then none.
+fn own(lot: &mut Lot, n: u8, sender: u8) -> u8 {
+    let byte = lot.byte();
+    match lot.below(24) {
+        0 => lot.pick(&[0, n.wrapping_add(1), byte]),
+        1..=6 => sender,
+        _ => 1 + lot.below(u64::from(n.max(1))) as u8,
+    }
+}
+
+/// A station, mostly one that is in order.
+fn station(lot: &mut Lot) -> Station {
+    let header = header(lot);
+    let (n, t, upper, sender) = (header.n, header.t, header.upper, header.sender);
+    let own = own(lot, n, sender);
+    let last = t.wrapping_mul(3).wrapping_add(6);
+    let inside = 1 + lot.below(u64::from(last.max(1))) as u8;
+    let state = match lot.below(12) {
+        0 => lot.word().to_le_bytes()[..4].try_into().expect("four bytes"),
+        1 | 2 => {
+            let round = lot.pick(&[0, 1, last, last.wrapping_add(1), last.wrapping_add(2), 255]);
+            [round, lot.pick(&[0, 1, 2]), lot.below(4) as u8, lot.below(4) as u8]
+        }
+        3 => [last.wrapping_add(1), lot.below(2) as u8, lot.below(3) as u8, lot.below(3) as u8],
+        _ => [inside, lot.below(2) as u8, lot.below(3) as u8, lot.below(3) as u8],
+    };
+    let [round, value, z, grade] = state;
+    Station { n, t, upper, sender, own, round, value, z, grade }
+}
+
+/// A row, mostly of n bytes: any ballots, or ballots of one kind with others near a threshold.
+fn row(lot: &mut Lot, station: &Station) -> Vec<u8> {
+    let n = usize::from(station.n);
+    let len = match lot.below(20) {
+        0 => lot.pick(&[0, 1, n + 1, n.saturating_sub(1), 32, 33, 2 * n]),
+        _ => n,
+    };
+    if lot.one_in(3) {
+        return (0..len).map(|_| lot.ballot()).collect();
+    }
+    let mut row = vec![lot.below(2) as u8; len];
+    let near = lot.pick(&[station.t, station.upper, station.n / 2]).wrapping_add(lot.below(2) as u8);
+    for _ in 0..near.min(station.n) {
+        let (at, ballot) = (lot.below(len.max(1) as u64) as usize, lot.ballot());
+        row.get_mut(at).into_iter().for_each(|byte| *byte = ballot);
+    }
+    row
+}
+
+pub fn open(lot: &mut Lot) -> Compared {
+    let header = header(lot);
+    let line = (header.n, header.t, header.upper);
+    let own = own(lot, header.n, header.sender);
+    let opened = Station::open(line, header.sender, own, header.value);
+    let ours = word(opened.map(|station| ffi::state(&station)), 0);
+    let theirs = ffi::open(line, header.sender, own, header.value);
+    compared(ours, theirs, |told| {
+        told.line(line).number("sender", header.sender).number("own", own).number("value", header.value)
+    })
+}
+
+pub fn ballot(lot: &mut Lot) -> Compared {
+    let station = station(lot);
+    let ours = word(station.ballot().map(u32::from), 0);
+    compared(ours, ffi::ballot(&station), |told| told.station(&station))
+}
+
+pub fn advance(lot: &mut Lot) -> Compared {
+    let station = station(lot);
+    let row = row(lot, &station);
+    let ours = word(station.take(&row).map(|next| ffi::state(&next)), ffi::state(&station));
+    compared(ours, ffi::advance(&station, &row), |told| told.station(&station).bytes("row", &row))
+}
+
+pub fn result(lot: &mut Lot) -> Compared {
+    let station = station(lot);
+    let ours = word(station.result().map(result_values), 0);
+    compared(ours, ffi::result(&station), |told| told.station(&station))
+}
