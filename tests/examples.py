@@ -1,0 +1,202 @@
+#!/usr/bin/env python3
+"""The examples: run sheets with their listings.
+
+examples.py          writes examples/: document 01's cases A to D, and a large run in which ten bad stations divide the good ones
+examples.py --check  holds each sheet to the one made here, its listing to the model's, and what the program prints to the listing; then some
+                     inputs of odd lengths. The last line is 'N passed, M failed'
+"""
+import os
+import subprocess
+import sys
+
+import model
+
+TOP = os.path.join(os.path.dirname(os.path.abspath(__file__)), "..")
+EXAMPLES = os.path.join(TOP, "examples")
+PROGRAM = os.path.join(TOP, "target", "bin", "agree")
+
+
+# ---- a listing in Python, from document 01
+
+
+class Refused(Exception):
+    pass
+
+
+def refuse_if(holds, number):
+    if holds:
+        raise Refused(number)
+
+
+def low_first(b):
+    return int.from_bytes(b, "little")
+
+
+def judge_header(sheet):
+    """Causes 1 to 6; n, t, T, sender, value, first index and marks."""
+    k = (len(sheet) - 12) // 8
+    refuse_if(len(sheet) < 12 or len(sheet) != 12 + 8 * k or k > 4096 or sheet[5] != 0, 1)
+    n, t, T, sender, value = sheet[:5]
+    marks = low_first(sheet[8:12])
+    refuse_if(not 1 <= n <= 32, 2)
+    refuse_if(t > T or t + 2 * T >= n, 3)
+    refuse_if(not 1 <= sender <= n, 4)
+    refuse_if(value > 1, 5)
+    refuse_if(marks >> n, 6)
+    return n, t, T, sender, value, low_first(sheet[6:8]), marks
+
+
+def chain(sheet, first):
+    """Causes 9 and 10; the chained records in their order."""
+    k, i, seen, records = (len(sheet) - 12) // 8, first, set(), []
+    while i:
+        refuse_if(i > k, 9)
+        refuse_if(i in seen, 10)
+        seen.add(i)
+        records.append(sheet[4 + 8 * i : 12 + 8 * i])
+        i = low_first(records[-1][4:6])
+    return records
+
+
+def fill(n, t, marks, records):
+    """Causes 11 to 13; the run table."""
+    rounds, taken = 3 * t + 6, set()
+    table = [model.SILENCE] * (rounds * n * n)
+    for record in records:
+        r, i, j, ballot = record[:4]
+        refuse_if(not (1 <= r <= rounds and 1 <= i <= n and 1 <= j <= n) or record[6] or record[7], 11)
+        refuse_if(not marks >> (i - 1) & 1, 12)
+        refuse_if((r, i, j) in taken, 13)
+        taken.add((r, i, j))
+        table[((r - 1) * n + i - 1) * n + j - 1] = ballot
+    return table
+
+
+def listing(sheet):
+    try:
+        n, t, T, sender, value, first, marks = judge_header(sheet)
+        table = fill(n, t, marks, chain(sheet, first))
+    except Refused as refusal:
+        return f"refused {refusal}\n"
+    bad = [bool(marks >> i & 1) for i in range(n)]
+    _, outcomes = model.broadcast(model.Rules, model.Run(n, t, T, sender - 1, value, bad, table))
+    lines = [f"agree {n} {t} {T} {sender} {3 * t + 6}"]
+    for i in range(n):
+        lines.append(" ".join([str(i + 1)] + (["-"] * 3 if bad[i] else [str(b) for b in outcomes[i]])))
+    return "".join(line + "\n" for line in lines)
+
+
+# ---- the sheets
+
+
+def sheet_of(n, t, T, sender, value, marked, records, order=None):
+    """A sheet whose chain takes the records in their order; `order` says at which index each one stands."""
+    order = order or list(range(1, len(records) + 1))
+    marks = sum(1 << (i - 1) for i in marked)
+    first = order[0] if records else 0
+    placed = {}
+    for at, record, after in zip(order, records, order[1:] + [0]):
+        placed[at] = bytes(record) + after.to_bytes(2, "little") + b"\0\0"
+    body = b"".join(placed[at] for at in sorted(placed))
+    return bytes([n, t, T, sender, value, 0]) + first.to_bytes(2, "little") + marks.to_bytes(4, "little") + body
+
+
+def shuffled(items, seed):
+    """The items in an order that is the same in every run."""
+    items, state = list(items), seed
+    for last in range(len(items) - 1, 0, -1):
+        state = (state * 1664525 + 1013904223) % 2**32
+        at = (state >> 8) % (last + 1)
+        items[at], items[last] = items[last], items[at]
+    return items
+
+
+def large():
+    """The largest line with ten bad stations, which keep the 22 good ones divided as long as they can: the sender and ten kings tell stations 11 to 21
+    a zero and 22 to 32 a one, and so do all ten in the exchanges. King 11 is good. The rest are garbled bytes among the bad. The chain takes the
+    records in another order than that of the file."""
+    bad, good = range(1, 11), range(11, 33)
+    cells = [(1, 7, j) for j in good] + [(3 * p + 1, p, j) for p in bad for j in good]
+    cells += [(r, i, j) for p in range(1, 12) for r in (3 * p - 1, 3 * p) for i in bad for j in good]
+    records = [(r, i, j, 0 if j <= 21 else 1) for r, i, j in cells[:4000]]
+    records += [(r, i, j, 100 + r) for r, i, j in [(r, i, j) for r in range(1, 37) for i in bad for j in bad][:96]]
+    return sheet_of(32, 10, 10, 7, 1, bad, shuffled(records, 1), shuffled(range(1, 4097), 2))
+
+
+def sheets():
+    told = [(1, 4, 1, 1), (1, 4, 2, 0), (1, 4, 3, 0)]
+    both = [(r, 1, j, j - 2) for r in (1, 2, 3, 5, 6) for j in (2, 3)]
+    return {
+        "a": sheet_of(4, 1, 1, 1, 1, [4], []),
+        "b": sheet_of(4, 0, 1, 4, 0, [4], told),
+        "c": sheet_of(3, 0, 1, 1, 0, [1], both),
+        "d": sheet_of(1, 0, 0, 1, 0, [], []),
+        "d-bad": sheet_of(1, 0, 0, 1, 0, [1], []),
+        "large": large(),
+    }
+
+
+def odd_inputs():
+    """Inputs that are no sheets by their length, the longest sheet, and a sheet for each later cause."""
+    a = sheet_of(4, 1, 1, 1, 1, [4], [])
+    one = sheet_of(4, 1, 1, 1, 1, [4], [(1, 4, 1, 1)])
+    longest = large()
+    inputs = {"empty": b"", "one byte": b"\4", "eleven bytes": a[:11], "thirteen bytes": a + b"\0", "nineteen bytes": one[:19]}
+    inputs |= {"a byte too long": longest + b"\0", "a record too long": longest + bytes(8), "very long": longest * 4, "zeros": bytes(12)}
+    inputs |= {"all ones": b"\xff" * 12, "n 33": b"\x21" + a[1:], "T 2": a[:2] + b"\2" + a[3:], "sender 5": a[:3] + b"\5" + a[4:]}
+    inputs |= {"value 2": a[:4] + b"\2" + a[5:], "mark 5": a[:8] + b"\x10" + a[9:], "byte 5": a[:5] + b"\1" + a[6:], "first 1": a[:6] + b"\1" + a[7:]}
+    inputs |= {"again": one[:16] + b"\1" + one[17:], "round 10": one[:12] + b"\x0a" + one[13:], "last byte": one[:19] + b"\1"}
+    inputs |= {"unmarked": one[:13] + b"\1" + one[14:], "twice": sheet_of(4, 1, 1, 1, 1, [4], [(1, 4, 1, 1), (1, 4, 1, 255)])}
+    return inputs
+
+
+# ---- writing and checking
+
+
+def read(path):
+    with open(path, "rb") as file:
+        return file.read()
+
+
+def printed(sheet):
+    done = subprocess.run([PROGRAM], input=sheet, capture_output=True)
+    return done.stdout if done.returncode == 0 and not done.stderr else None
+
+
+def write():
+    for name, sheet in sheets().items():
+        with open(os.path.join(EXAMPLES, name + ".sheet"), "wb") as file:
+            file.write(sheet)
+        with open(os.path.join(EXAMPLES, name + ".txt"), "w") as file:
+            file.write(listing(sheet))
+
+
+def checks():
+    """A name and whether it holds, for each."""
+    for name, made in sheets().items():
+        sheet, text = (read(os.path.join(EXAMPLES, name + end)) for end in (".sheet", ".txt"))
+        yield f"{name}: the sheet is the one made here", sheet == made
+        yield f"{name}: the listing is the model's", text.decode() == listing(sheet)
+        yield f"{name}: the program prints it", printed(sheet) == text
+    for name, sheet in odd_inputs().items():
+        expected = listing(sheet)
+        yield f"{name}: {expected.split(chr(10))[0]}", printed(sheet) == expected.encode()
+
+
+def check():
+    if not os.path.exists(PROGRAM):
+        print("the program is not built; `rt check agree` builds it\n0 passed, 1 failed")
+        return False
+    passed = failed = 0
+    for name, holds in checks():
+        passed, failed = passed + holds, failed + (not holds)
+        if not holds:
+            print(f"failed: {name}")
+    print(f"{passed} passed, {failed} failed")
+    return failed == 0
+
+
+if __name__ == "__main__":
+    if sys.argv[1:] == ["--check"]:
+        sys.exit(0 if check() else 1)
+    write()
