@@ -10,74 +10,23 @@ import subprocess
 import sys
 
 import model
+import sheet as reader
 
 TOP = os.path.join(os.path.dirname(os.path.abspath(__file__)), "..")
 EXAMPLES = os.path.join(TOP, "examples")
+LARGEST_TABLE = 36864
 PROGRAM = os.path.join(TOP, "target", "bin", "agree")
 
 
 # ---- a listing in Python, from document 01
 
 
-class Refused(Exception):
-    pass
-
-
-def refuse_if(holds, number):
-    if holds:
-        raise Refused(number)
-
-
-def low_first(b):
-    return int.from_bytes(b, "little")
-
-
-def judge_header(sheet):
-    """Causes 1 to 6; n, t, T, sender, value, first index and marks."""
-    k = (len(sheet) - 12) // 8
-    refuse_if(len(sheet) < 12 or len(sheet) != 12 + 8 * k or k > 4096 or sheet[5] != 0, 1)
-    n, t, T, sender, value = sheet[:5]
-    marks = low_first(sheet[8:12])
-    refuse_if(not 1 <= n <= 32, 2)
-    refuse_if(t > T or t + 2 * T >= n, 3)
-    refuse_if(not 1 <= sender <= n, 4)
-    refuse_if(value > 1, 5)
-    refuse_if(marks >> n, 6)
-    return n, t, T, sender, value, low_first(sheet[6:8]), marks
-
-
-def chain(sheet, first):
-    """Causes 9 and 10; the chained records in their order."""
-    k, i, seen, records = (len(sheet) - 12) // 8, first, set(), []
-    while i:
-        refuse_if(i > k, 9)
-        refuse_if(i in seen, 10)
-        seen.add(i)
-        records.append(sheet[4 + 8 * i : 12 + 8 * i])
-        i = low_first(records[-1][4:6])
-    return records
-
-
-def fill(n, t, marks, records):
-    """Causes 11 to 13; the run table."""
-    rounds, taken = 3 * t + 6, set()
-    table = [model.SILENCE] * (rounds * n * n)
-    for record in records:
-        r, i, j, ballot = record[:4]
-        refuse_if(not (1 <= r <= rounds and 1 <= i <= n and 1 <= j <= n) or record[6] or record[7], 11)
-        refuse_if(not marks >> (i - 1) & 1, 12)
-        refuse_if((r, i, j) in taken, 13)
-        taken.add((r, i, j))
-        table[((r - 1) * n + i - 1) * n + j - 1] = ballot
-    return table
-
-
-def listing(sheet):
-    try:
-        n, t, T, sender, value, first, marks = judge_header(sheet)
-        table = fill(n, t, marks, chain(sheet, first))
-    except Refused as refusal:
-        return f"refused {refusal}\n"
+def listing(data):
+    n, t = data[:2] if len(data) > 1 else (0, 0)
+    cause, table = reader.read(data, [0] * min(reader.table_size(n, t), LARGEST_TABLE))
+    if cause:
+        return f"refused {cause}\n"
+    n, t, T, sender, value, marks = reader.header(data)
     bad = [bool(marks >> i & 1) for i in range(n)]
     _, outcomes = model.broadcast(model.Rules, model.Run(n, t, T, sender - 1, value, bad, table))
     lines = [f"agree {n} {t} {T} {sender} {3 * t + 6}"]
