@@ -14,7 +14,7 @@ use crate::timing::{sample, time_in_turn, Nanoseconds, Sample};
 
 const SAMPLES: usize = 401;
 
-/// The largest line: n 32, t and T 10, with this many bad stations, the sender not among them.
+/// The largest line: n 32, t and T 10, its last stations bad, this many.
 fn largest(bad: u32) -> (Header, Line) {
     let marks = Marks((u64::from(u32::MAX) << (32 - bad)) as u32);
     let header = Header { n: 32, t: 10, upper: 10, sender: 1, value: 1, marks };
