@@ -15,7 +15,7 @@ fn within(len: usize, buffer: &[u8]) -> usize
     }
 }
 
-// Lists a sheet. No listing is longer than 538 bytes.
+// Lists a sheet. No listing is longer than 538 bytes (`Listing-short` of crate listing).
 fn list(sheet: &[u8]) {
     let mut table = [255; 36864];
     let mut log = [255; 36864];

@@ -16,6 +16,7 @@ use Rattle.sheet.specs.Judgement.{ill-formed, sheet-form, line-and-length, open
 use Rattle.sheet.specs.Reading.{place-of, filled}
 use Rattle.sheet.proofs.ChainLaws.{kind, walk, fate}
 use Rattle.listing.specs.Lines.{station-line, station-lines, verdict, lines}
+use Rattle.listing.specs.Text.{decimal}
 use Rattle.cases.specs.Cases.{All, cases}
 
 infixr 5 _then_
@@ -23,9 +24,10 @@ _then_ : {A B : Type 0} → A → B → A × B
 a then b = (a, b)
 
 pub cases-hold : All cases
-unfolding count place marked bit-or read-sender read-first read-second read-king refused-if outside station-count exceeded thresholds station-number bit mark-beyond marks-within exact-length header-verdict tally firsts seconds z-of y-of grade-of flag-of sends first-row z second-row y grade phases first-round obey x-after y-after grade-after value-of final-grade final-flag at tabulate setting outcome-byte outcome-bytes outcomes byte two four header spare first records start round from to ballot next rest is-record after reached ill-formed sheet-form line-and-length opening-verdict misplaced record-form unmarked-sender same-place taken-before duplicate record-verdict records-verdict sheet-verdict place-of filled kind walk fate station-line station-lines verdict lines
+unfolding count place marked bit-or read-sender read-first read-second read-king refused-if outside station-count exceeded thresholds station-number bit mark-beyond marks-within exact-length header-verdict tally firsts seconds z-of y-of grade-of flag-of sends first-row z second-row y grade phases first-round obey x-after y-after grade-after value-of final-grade final-flag at tabulate setting outcome-byte outcome-bytes outcomes byte two four header spare first records start round from to ballot next rest is-record after reached ill-formed sheet-form line-and-length opening-verdict misplaced record-form unmarked-sender same-place taken-before duplicate record-verdict records-verdict sheet-verdict place-of filled kind walk fate station-line station-lines verdict lines decimal
 cases-hold =
     (fate _, refl, refl)
+    then (fate _, refl, refl)
     then (fate _, refl, refl)
     then (fate _, refl, refl)
     then (fate _, refl, refl)

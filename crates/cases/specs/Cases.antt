@@ -5,10 +5,12 @@ use mathlib.Core.List.{List, [], _∷_, _++_}
 use Rattle.line.specs.Cause.{code}
 use Rattle.sheet.specs.Chain.{Fate}
 use Rattle.listing.specs.Lines.{Field, agree, num, dash, verdict, lines}
+use Rattle.listing.specs.Text.{text}
 
--- what must come out of a sheet: its listing's lines, or that it is accepted, or the number that it is refused by
+-- what must come out of a sheet: its listing's lines, or its text byte by byte, or that it is accepted, or the number that it is refused by
 pub data Outcome : Type 0 where
   prints : List (List Field) → Outcome
+  writes : List ℕ → Outcome
   accepted : Outcome
   refused-by : ℕ → Outcome
 
@@ -19,6 +21,7 @@ pub record Case : Type 0 where
 -- it comes out, by the definitions that the calls promise
 abbrev pub Comes : (s : List ℕ) → Outcome → Type 0
 Comes s (prints l) = (fate : Fate s) × (code (verdict s fate) ≡ 0) × (lines s fate ≡ l)
+Comes s (writes b) = (fate : Fate s) × (code (verdict s fate) ≡ 0) × (text (lines s fate) ≡ b)
 Comes s accepted = (fate : Fate s) × (code (verdict s fate) ≡ 0)
 Comes s (refused-by k) = (fate : Fate s) × (code (verdict s fate) ≡ k)
 
@@ -52,6 +55,19 @@ abbrev pub case-A : Case
 case-A = record {
   sheet = 4 ∷ 1 ∷ 1 ∷ 1 ∷ 1 ∷ 0 ∷ 0 ∷ 0 ∷ 8 ∷ 0 ∷ 0 ∷ 0 ∷ [];
   comes-out = prints (opening 4 1 1 1 9 ∷ good 1 1 2 0 ∷ good 2 1 2 0 ∷ good 3 1 2 0 ∷ bad 4 ∷ []);
+}
+
+-- "prints, whole": with every space and newline
+abbrev pub case-A-whole : Case
+case-A-whole = record {
+  sheet = case-A .sheet;
+  comes-out =
+      writes
+      ((97 ∷ 103 ∷ 114 ∷ 101 ∷ 101 ∷ 32 ∷ 52 ∷ 32 ∷ 49 ∷ 32 ∷ 49 ∷ 32 ∷ 49 ∷ 32 ∷ 57 ∷ 10 ∷ [])
+      ++ (49 ∷ 32 ∷ 49 ∷ 32 ∷ 50 ∷ 32 ∷ 48 ∷ 10 ∷ [])
+      ++ (50 ∷ 32 ∷ 49 ∷ 32 ∷ 50 ∷ 32 ∷ 48 ∷ 10 ∷ [])
+      ++ (51 ∷ 32 ∷ 49 ∷ 32 ∷ 50 ∷ 32 ∷ 48 ∷ 10 ∷ [])
+      ++ (52 ∷ 32 ∷ 45 ∷ 32 ∷ 45 ∷ 32 ∷ 45 ∷ 10 ∷ []));
 }
 
 -- "station 4 bad, telling station 1 a one and stations 2 and 3 a zero in round 1, then silent"
@@ -88,6 +104,7 @@ bare n t T o = record { sheet = head n t T 1 0 0 0; comes-out = o }
 abbrev pub cases : List Case
 cases =
     case-A
+    ∷ case-A-whole
     ∷ case-B
     ∷ case-C
     ∷ case-D

@@ -1,7 +1,8 @@
 -- Laws of the text: what stands where after bytes are laid, and a text put piece by piece. Assumes nothing.
-use Prim.Native.Nat.{ℕ, zero, suc, _+_, _/_, _%_, _≤_, _<_}
+use Prim.Native.Nat.{ℕ, zero, suc, _+_, _*_, _/_, _%_, _≤_, _<_}
 use mathlib.Core.Logic.{_≢_}
 use mathlib.Core.Path.{_≡_, refl, _∙_}
+use mathlib.Core.Bool.{true, false}
 use mathlib.Core.List.{List, [], _∷_, _++_, append-assoc, append-nil}
 use native.Mathlib.Nat.{add-zero}
 use native.Mathlib.Numerals.{add-one}
@@ -9,8 +10,10 @@ use native.Mathlib.Omega.{arith}
 use lib.ListN.{length, getD, take, drop, set, length-set, length-append}
 use lib.Seq.{take-suc, take-length, getD-set-same, getD-set-other, set-out, sets, sets-eq}
 use borrow.Author.Tests.{lt-ltb, le-ltb}
+use Rattle.line.specs.Marks.{marked}
+use Rattle.broadcast.specs.Station.{at}
 use Rattle.sheet.specs.declared.Header.{Header}
-use Rattle.listing.specs.Lines.{station-line, station-lines}
+use Rattle.listing.specs.Lines.{num, dash, station-line, station-lines}
 use Rattle.listing.specs.Text.{digit, decimal, line-text, text, laid}
 use Rattle.listing.specs.Theorems.{Lies}
 use Rattle.listing.specs.Loops.{Puts}
@@ -120,6 +123,16 @@ unfolding decimal
 decimal-three x h = rw (le-ltb x 10 (omega arith), le-ltb x 100 h)
 
 -- ---- lines
+
+module _ (h : Header) (bytes : List ℕ) (i : ℕ) where
+  pub bad-shown : marked (h .marks) i ≡ true → station-line h bytes i ≡ num (i + 1) ∷ dash ∷ dash ∷ dash ∷ []
+  unfolding station-line
+  bad-shown e = rw e
+
+  pub good-shown : marked (h .marks) i ≡ false
+      → station-line h bytes i ≡ num (i + 1) ∷ num (getD bytes (3 * i) 0) ∷ num (getD bytes (3 * i + 1) 0) ∷ num (getD bytes (3 * i + 2) 0) ∷ []
+  unfolding station-line at
+  good-shown e = rw e
 
 -- a station more
 pub lines-more : (h : Header) (bytes : List ℕ) (i m : ℕ)

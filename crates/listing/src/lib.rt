@@ -4,7 +4,7 @@ ghost use Prim.Native.Nat.{_≤_, min};
 ghost use lib.ListN.{length};
 ghost use Rattle.line.specs.Line.{outcomes-length};
 ghost use Rattle.sheet.specs.Layout.{byte};
-ghost use Rattle.listing.specs.Promise.{wanted, front, Lists};
+ghost use Rattle.listing.specs.Promise.{wanted, Lists};
 ghost use Rattle.listing.specs.Loops.{Readable, Runs, ListsWhole};
 use line::Line;
 use line::cause::Verdict;

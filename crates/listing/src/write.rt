@@ -1,7 +1,8 @@
-// The text of a listing, put into a buffer byte by byte as far as the buffer goes.
+// The text of a listing, put into a buffer byte by byte as far as the buffer goes. Each function puts its bytes from a place on and answers the place
+// after them. Places are kept below 4,096, where no sum wraps; the longest listing has 538 bytes.
 ghost use mathlib.Core.Path.{_≡_};
 ghost use mathlib.Core.List.{[], _∷_};
-ghost use Prim.Native.Nat.{_+_, _*_, _≤_, _<_};
+ghost use Prim.Native.Nat.{_+_, _≤_, _<_};
 ghost use lib.ListN.{length};
 ghost use Rattle.line.specs.declared.cause.Verdict.the-variants.{Accepted};
 ghost use Rattle.listing.specs.Lines.{num, dash, refused, first-line, station-line, station-lines, lines-by};
@@ -18,7 +19,6 @@ fn byte(out: &mut [u8], at: usize, b: u8) -> usize
 {
     if at < out.len() {
         out[at] = b;
-        return at + 1;
     }
     at + 1
 }

@@ -44,7 +44,7 @@ returns c =
     let a = c .before .before .before .before .before .before .before .before .before .before .before .within .ensures in
     let b = c .before .before .before .before .before .before .before .before .before .before .within2 .ensures in
     let w = c .before .before .before .before .before .before .before .before .before .before .before .before .wanted .ensures in
-    lists-parts _ _ _ _ _ _ _ _ _ _ (a .1) (b .1) (rw w at (a .0)) (rw w at (b .0)) (c .before .before .before .before .before .before .list-whole .kept .1 .0) (c .before .before .before .before .before .before .list-whole .kept .1 .1 .0) (c .before .before .before .before .before .before .list-whole .ensures)
+    lists-parts _ _ _ _ _ _ _ _ _ _ (a .1) (b .1) (rw (← w) (a .0)) (rw (← w) (b .0)) (c .before .before .before .before .before .before .list-whole .kept .1 .0) (c .before .before .before .before .before .before .list-whole .kept .1 .1 .0) (c .before .before .before .before .before .before .list-whole .ensures)
 
 pub list-spec : {M : Type 1} → statement M
 list-spec =

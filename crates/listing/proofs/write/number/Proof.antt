@@ -14,7 +14,7 @@ same-length c = search needs
 returns : tie.Need-returns
 returns c =
     let p = c .before .before .digit .ensures in
-    (rw (decimal-one _ (c .before .before .before .before .if1 .taken)) at p, omega (arith, p .answer-is))
+    (rw (decimal-one (c .before .before .before .before .before .before .args .x) (omega arith)) at p, omega (arith, p .answer-is))
 
 digit-requires-2 : tie.Need-digit-requires-2
 digit-requires-2 c κs = search needs
@@ -29,7 +29,7 @@ returns-2 : tie.Need-returns-2
 returns-2 c =
     let p = c .before .before .before .before .before .before .digit2 .ensures in
     let q = c .before .before .digit3 .ensures in
-    (rw (decimal-two _ (c .before .before .before .before .before .before .before .before .before .if1 .left) (c .before .before .before .before .before .before .before .before .if2 .taken)) at (puts-then p q), omega (arith, p .answer-is, q .answer-is))
+    (rw (decimal-two (c .before .before .before .before .before .before .before .before .before .before .before .args .x) (omega arith) (omega arith)) at (puts-then p q), omega (arith, p .answer-is, q .answer-is))
 
 digit-requires-4 : tie.Need-digit-requires-4
 digit-requires-4 c κs = search needs
@@ -48,7 +48,7 @@ returns-3 c =
     let p = c .before .before .before .before .before .before .before .before .before .before .digit4 .ensures in
     let q = c .before .before .before .before .before .before .digit5 .ensures in
     let r = c .before .before .digit6 .ensures in
-    (rw (decimal-three _ (c .before .before .before .before .before .before .before .before .before .before .before .before .if2 .left)) at (puts-then p (puts-then q r)), omega (arith, p .answer-is, q .answer-is, r .answer-is))
+    (rw (decimal-three (c .before .before .before .before .before .before .before .before .before .before .before .before .before .before .before .args .x) (omega arith)) at (puts-then p (puts-then q r)), omega (arith, p .answer-is, q .answer-is, r .answer-is))
 
 pub number-spec : {M : Type 1} → statement M
 number-spec =

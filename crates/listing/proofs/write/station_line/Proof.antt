@@ -1,8 +1,7 @@
 -- `write::station_line` meets its contract, by whether the station is marked.
 use borrow.Author.Needs.{needs}
 use mathlib.Core.Path.{sym, _∙_}
-use Rattle.broadcast.specs.Station.{at}
-use Rattle.listing.specs.Lines.{station-line}
+use Rattle.listing.proofs.TextLaws.{bad-shown, good-shown}
 use Rattle.listing.proofs.write.station_line.Statement.{statement}
 use Rattle.listing.proofs.write.station_line.Tie as tie
 
@@ -19,9 +18,9 @@ same-length : tie.Need-same-length
 same-length c = search needs
 
 returns : tie.Need-returns
-unfolding station-line
 returns c =
-    rw (sym (c .before .before .before .before .before .is-marked .ensures) ∙ c .before .before .before .before .if1 .taken) (c .before .before .bad-line .ensures)
+    let a = c .before .before .before .before .before .before .before .before .args in
+    rw (bad-shown (a .header) (a .outcomes .now) (a .i) (sym (c .before .before .before .before .before .is-marked .ensures) ∙ c .before .before .before .before .if1 .taken)) (c .before .before .bad-line .ensures)
 
 mul-k : tie.Need-mul-k
 mul-k c = search needs
@@ -48,9 +47,9 @@ same-length-2 : tie.Need-same-length-2
 same-length-2 c = search needs
 
 returns-2 : tie.Need-returns-2
-unfolding station-line at
 returns-2 c =
-    rw (sym (c .before .before .before .before .before .before .before .before .is-marked .ensures) ∙ c .before .before .before .before .before .before .before .if1 .left) (c .before .before .good-line .ensures)
+    let a = c .before .before .before .before .before .before .before .before .before .before .before .args in
+    rw (good-shown (a .header) (a .outcomes .now) (a .i) (sym (c .before .before .before .before .before .before .before .before .is-marked .ensures) ∙ c .before .before .before .before .before .before .before .if1 .left)) (c .before .before .good-line .ensures)
 
 pub station-line-spec : {M : Type 1} → statement M
 station-line-spec =
