@@ -1,4 +1,4 @@
-// The station for a bonder's controller in C: numbers, and the row's byte slice. C keeps the station's number of five bytes that it was opened with and
+// The station for a bonder's controller in C: numbers, and the row's byte slice. C keeps the five numbers that the station was opened with and
 // a state of 32 bits. Each answer is 64 bits: document 01's number of the refusal above, 0 where nothing is refused, and the values below.
 ghost use mathlib.Core.Path.{_≡_};
 ghost use Rattle.controller.specs.Words.{station-of, state-word, answer-word, opened-word, told-word, advanced-word, outcome-word};

@@ -34,7 +34,7 @@ listing s table log fate =
 
 -- The promise. `table₀`, `log₀` and `text₀` are the lent buffers at entry, `table₁`, `log₁` and `text₁` at exit.
 pub record Lists (s table₀ table₁ log₀ log₁ text₀ text₁ : List ℕ) (answer : ℕ) : Type 0 where
-  -- what becomes of the sheet's chain: there is one fate only (`one-fate` of crate sheet)
+  -- what becomes of the sheet's chain: there is one fate only (`One-fate` of crate sheet)
   pub fate : Fate s
   -- the length of the whole text, also where the buffer is shorter
   pub answer-is : answer ≡ length (listing s (front s (length table₀)) (front s (length log₀)) fate)

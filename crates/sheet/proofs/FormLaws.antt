@@ -1,12 +1,12 @@
 -- Laws of the sheet's form: cause 1 lets through exactly the sheets of document 01's form. Assumes nothing.
-use Prim.Native.Nat.{ℕ, _+_, _*_}
-use mathlib.Core.Path.{_≡_}
-use mathlib.Core.Bool.{not, _||_}
+use Prim.Native.Nat.{ℕ, _+_, _*_, _<_}
+use mathlib.Core.Path.{_≡_, refl}
+use mathlib.Core.Bool.{Bool, true, false, not, _||_}
 use mathlib.Core.List.{List}
 use native.Mathlib.Omega.{arith}
 use lib.Dec.{ltb, eqb}
 use lib.ListN.{length}
-use borrow.Author.Tests.{eqb-true, eq-eqb, ltb-false, le-ltb, not-false}
+use borrow.Author.Tests.{eqb-true, eq-eqb, ltb-false, lt-ltb, le-ltb, not-false}
 use Rattle.line.specs.declared.cause.Verdict.the-variants.{Accepted}
 use Rattle.line.proofs.HeaderLaws.{refused-false, accepted-false, neither}
 use Rattle.sheet.specs.Layout.{spare, most-records, records}
@@ -34,10 +34,19 @@ module _ (s : List ℕ) where
       let whole = eqb (length s) (12 + 8 * records s) in
       let many = ltb most-records (records s) in
       let blank = eqb (spare s) 0 in
-      let (f, c) = neither (many || not whole) (not blank) (accepted-false _ _ e) in
-      let (b, a) = neither many (not whole) f in
+      let (f, c) = neither (not whole || many) (not blank) (accepted-false _ _ e) in
+      let (a, b) = neither (not whole) many f in
       record {
         length-is = eqb-true (length s) (12 + 8 * records s) (not-false whole a);
         most = ltb-false most-records (records s) b;
         spare-zero = eqb-true (spare s) 0 (not-false blank c);
       }
+
+  -- more records than a sheet may have
+  pub form-many : most-records < records s → ill-formed s ≡ true
+  unfolding ill-formed
+  form-many h = rw (lt-ltb most-records (records s) h) (go (eqb (length s) (12 + 8 * records s)))
+    where
+      go : (b : Bool) → (not b || true) || not (eqb (spare s) 0) ≡ true
+      go true = refl
+      go false = refl

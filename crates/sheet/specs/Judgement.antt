@@ -20,8 +20,8 @@ use Rattle.sheet.specs.Chain.{reached, Fate, leaves, again, ends}
 -- "sheet length not 12 + 8k with k from 0 to 4,096, or byte 5 not zero"
 unfoldable pub ill-formed : List ℕ → Bool
 ill-formed s =
-    ltb most-records (records s)
-    || not (eqb (length s) (12 + 8 * records s))
+    not (eqb (length s) (12 + 8 * records s))
+    || ltb most-records (records s)
     || not (eqb (spare s) 0)
 
 unfoldable pub sheet-form : List ℕ → Verdict

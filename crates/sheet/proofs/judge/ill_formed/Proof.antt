@@ -1,11 +1,12 @@
 -- `judge::ill_formed` meets its contract: one test after the other.
 use borrow.Author.Needs.{needs}
 use Prim.Native.Nat.{_+_, _*_, _≤_, _<_}
-use mathlib.Core.Path.{_≡_}
+use mathlib.Core.Path.{_≡_, sym}
 use lib.ListN.{length}
-use borrow.Author.Tests.{lt-ltb, le-ltb, eq-eqb, ne-eqb}
+use borrow.Author.Tests.{le-ltb, eq-eqb, ne-eqb}
 use Rattle.sheet.specs.Layout.{records, spare, byte}
 use Rattle.sheet.specs.Judgement.{ill-formed}
+use Rattle.sheet.proofs.FormLaws.{form-many}
 use Rattle.sheet.proofs.judge.ill_formed.Statement.{statement}
 use Rattle.sheet.proofs.judge.ill_formed.Tie as tie
 
@@ -13,10 +14,9 @@ records-requires : tie.Need-records-requires
 records-requires c κs = search needs
 
 returns : tie.Need-returns
-unfolding ill-formed
 returns c =
-    let k = records (c .before .before .before .args .sheet .now) in
-    let more : 4096 < k = rw (c .before .records .ensures) at (c .if1 .taken) in rw (lt-ltb 4096 k more)
+    let s = c .before .before .before .args .sheet .now in
+    let more : 4096 < records s = rw (c .before .records .ensures) at (c .if1 .taken) in sym (form-many s more)
 
 mul-if2 : tie.Need-mul-if2
 mul-if2 c = search needs
