@@ -1,0 +1,39 @@
+// A lent station: the caller's own is advanced by one row where it stands.
+ghost use mathlib.Core.Path.{_≡_};
+ghost use Rattle.lent.specs.Lent.{taken, AdvancesLent};
+use line::cause::Cause;
+use station::Advanced;
+use station::Station;
+
+// What a row makes of a station, and what is answered.
+struct Taken {
+    station: Station,
+    answer: u8,
+}
+
+// The step by value: the station after the row and 0, or the same station and the number of the cause.
+fn take(s: Station, row: &[u8]) -> Taken
+    ensures { λ r. ⌜ r ≡ taken s (now (row .entry)) ⌝ }
+{
+    let advanced = station::advance(s, row);
+    match advanced {
+        Advanced::Next(next) => Taken {
+            station: next,
+            answer: 0,
+        },
+        Advanced::Refused(c) => Taken {
+            station: s,
+            answer: c.number(),
+        },
+    }
+}
+
+// The lent station takes the row that it received in the current round. The answer is 0, or the number of the cause by which the row is refused; the
+// station is then as it was.
+pub fn advance(s: &mut Station, row: &[u8]) -> u8
+    ensures { λ r. ⌜ AdvancesLent (now (s .entry)) (now (row .entry)) (now (s .exit)) r ⌝ }
+{
+    let r = take(*s, row);
+    *s = r.station;
+    r.answer
+}
