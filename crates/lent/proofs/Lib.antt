@@ -1,2 +1,2 @@
--- StepLaws: what the call by value promises, said of a lent station. take and advance: that each meets its contract.
+-- StepLaws: what the call by value promises, said of a lent station. take and vembopu_advance_lent: that each meets its contract.
 pub mod StepLaws

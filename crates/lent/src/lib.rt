@@ -1,4 +1,4 @@
-// A lent station: the caller's own is advanced by one row where it stands.
+// A lent station: the caller's own is advanced by one row where it stands. C can call it too, with the struct's nine bytes.
 ghost use mathlib.Core.Path.{_≡_};
 ghost use Rattle.lent.specs.Lent.{taken, AdvancesLent};
 use line::cause::Cause;
@@ -30,7 +30,8 @@ fn take(s: Station, row: &[u8]) -> Taken
 
 // The lent station takes the row that it received in the current round. The answer is 0, or the number of the cause by which the row is refused; the
 // station is then as it was.
-pub fn advance(s: &mut Station, row: &[u8]) -> u8
+#[no_mangle]
+pub extern "C" fn vembopu_advance_lent(s: &mut Station, row: &[u8]) -> u8
     ensures { λ r. ⌜ AdvancesLent (now (s .entry)) (now (row .entry)) (now (s .exit)) r ⌝ }
 {
     let r = take(*s, row);

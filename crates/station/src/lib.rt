@@ -11,6 +11,7 @@ mod judge;
 mod step;
 
 // What a station is opened with, and its state. Stations are numbered from 1. Any bytes may stand in it: each call judges them.
+#[repr(C)]
 pub struct Station {
     pub n: u8,
     pub t: u8,

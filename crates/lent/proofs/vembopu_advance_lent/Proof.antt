@@ -1,4 +1,4 @@
--- `advance` meets its contract: a walk of its MIR, by hand. The borrow is opened, the station is copied out and passed to `take`, the station that
+-- `vembopu_advance_lent` meets its contract: a walk of its MIR, by hand. The borrow is opened, the station is copied out and passed to `take`, the station that
 -- `take` answers with is stored, and the borrow is closed at it. All that is known of `take` is its contract. Of the row, which is a `&`, a copy is passed
 -- and one is kept for the exit.
 -- Assumes nothing.
@@ -53,10 +53,10 @@ use Rattle.lent.proofs.take as g
 use Rattle.lent.proofs.take.Symbol as g-def
 use Rattle.lent.proofs.take.Symbol.{name as #g}
 use Rattle.lent.proofs.take.Met as g-thm
-use Rattle.lent.proofs.advance.Key.{name as #f}
-use Rattle.lent.proofs.advance as f
-use Rattle.lent.proofs.advance.Statement as stated
-use Rattle.lent.proofs.advance.Code as code
+use Rattle.lent.proofs.vembopu_advance_lent.Key.{name as #f}
+use Rattle.lent.proofs.vembopu_advance_lent as f
+use Rattle.lent.proofs.vembopu_advance_lent.Statement as stated
+use Rattle.lent.proofs.vembopu_advance_lent.Code as code
 
 abbrev stayed : Stays (f.ended .signature .params) (f.ended .kept)
 stayed = (stay-ref (0 ∷ []) tt (plain (λ _. T.the-row)), (stay-none-slice (1 ∷ []) tt (plain (λ _. u8)) yes, tt))
@@ -151,9 +151,9 @@ advance-meets : {M : Type 1} (𝓤 : URA M) (H : Heap 𝓤) (A : Atoms 𝓤) →
     → Meets 𝓤 H A f.signature (WpFn 𝓤 H (𝓣 .C) (𝓣 .Λ) code.function) (f.spec 𝓤 H A at-mem run)
 advance-meets 𝓤 H A W at-mem run 𝓣 known = walk-meets 𝓤 H A f.ended stayed W (goes 𝓤 H A W at-mem run) (f.clauses 𝓤 H A at-mem run) (WpFn 𝓤 H (𝓣 .C) (𝓣 .Λ) code.function) (WpFn-mono 𝓤 H (W .laws) 𝓣 code.function) (advance-walks 𝓤 H A W at-mem run (𝓣 .C) (𝓣 .Λ) (fmOf 𝓤 H (W .laws) 𝓣) known)
 
-pub advance-spec : {M : Type 1} → stated.statement M
+pub vembopu-advance-lent-spec : {M : Type 1} → stated.statement M
 unfolding code.routine tablesOf
-advance-spec 𝓤 H 𝓜 𝓖 𝓡 =
+vembopu-advance-lent-spec 𝓤 H 𝓜 𝓖 𝓡 =
     entered 𝓤 H (tripleOf 𝓤 H (𝓖 .A) f.signature (f.spec 𝓤 H (𝓖 .A) (𝓜 .mem) (𝓡 .run)))
     (tables 𝓤 H 𝓜 𝓡 code.env .C) (tables 𝓤 H 𝓜 𝓡 code.env .Λ) #f code.function (code.unfolded 𝓤 H 𝓜 𝓡)
     (advance-meets 𝓤 H (𝓖 .A) (givenOf 𝓤 H 𝓜 𝓖) (𝓜 .mem) (𝓡 .run) (tablesOf 𝓤 H 𝓜 (tables 𝓤 H 𝓜 𝓡 code.env))
