@@ -3,7 +3,7 @@
 
 examples.py          writes examples/: document 01's cases A to D, and a large run in which ten bad stations divide the good ones
 examples.py --check  holds each sheet to the one made here, its listing to the model's, and what the program prints to the listing; then some
-                     inputs of odd lengths. The last line is 'N passed, M failed'
+                     inputs of odd lengths, and the command ./agree. The last line is 'N passed, M failed'
 """
 import os
 import subprocess
@@ -16,6 +16,7 @@ TOP = os.path.join(os.path.dirname(os.path.abspath(__file__)), "..")
 EXAMPLES = os.path.join(TOP, "examples")
 LARGEST_TABLE = 36864
 PROGRAM = os.path.join(TOP, "target", "bin", "agree")
+COMMAND = os.path.join(TOP, "agree")
 
 
 # ---- a listing in Python, from document 01
@@ -130,6 +131,12 @@ def checks():
     for name, sheet in odd_inputs().items():
         expected = listing(sheet)
         yield f"{name}: {expected.split(chr(10))[0]}", printed(sheet) == expected.encode()
+    sheet, text = (read(os.path.join(EXAMPLES, "a" + end)) for end in (".sheet", ".txt"))
+    done = subprocess.run([COMMAND], input=sheet, capture_output=True)
+    yield "./agree prints case A", (done.returncode, done.stdout, done.stderr) == (0, text, b"")
+    with open("/dev/full", "wb") as full:
+        done = subprocess.run([COMMAND], input=sheet, stdout=full, stderr=subprocess.PIPE)
+    yield "./agree tells what can't be written", done.returncode == 1 and b"could not be written" in done.stderr
 
 
 def check():

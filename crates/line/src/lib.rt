@@ -8,8 +8,8 @@ pub mod cause;
 pub mod header;
 pub mod marks;
 
-// A line of n stations with the thresholds t and T (document 01, "Names"). T is called upper here, since a field that differs from t
-// by its case alone is refused. Any bytes at all may stand in it: header::line judges them.
+// A line of n stations with the thresholds t and T (document 01, "Names"). T is called upper in code, where names by convention are lower case.
+// Any bytes at all may stand in it: header::line_verdict judges them.
 pub struct Line {
     pub n: u8,
     pub t: u8,
