@@ -9,7 +9,6 @@ use lib.ListN.{length, length-append}
 use Rattle.line.specs.Count.{if_then_else_}
 use Rattle.line.specs.Marks.{marked}
 use Rattle.line.specs.Cause.{number}
-use Rattle.line.specs.Header.{exact-length}
 use Rattle.line.specs.declared.cause.Verdict.{Verdict}
 use Rattle.line.specs.declared.cause.Verdict.the-variants.{Accepted, Refused}
 use Rattle.line.proofs.HeaderLaws.{both-accepted}
@@ -23,7 +22,7 @@ use Rattle.sheet.specs.Reading.{table-of}
 use Rattle.sheet.proofs.PromiseLaws.{opening-sound}
 use Rattle.listing.specs.Lines.{num, dash, first-line, station-line, station-lines, lines-by, run}
 use Rattle.listing.specs.Text.{digit, decimal, line-text, text}
-use Rattle.listing.specs.Promise.{wanted, listing-verdict, listing}
+use Rattle.listing.specs.Promise.{listing}
 
 decimal-short : (x : ℕ) → length (decimal x) ≤ 3
 unfolding decimal
@@ -54,18 +53,16 @@ unfolding station-lines
 stations-short h bytes i zero = omega arith
 stations-short h bytes i (suc m) = simp length-append (omega (arith, station-short h bytes i, stations-short h bytes (suc i) m))
 
-module _ (s : List ℕ) (table log : ℕ) (fate : Fate s) where
-  few : listing-verdict s table log fate ≡ Accepted → header s .n ≤ 32
-  unfolding listing-verdict sheet-verdict
-  few e =
-      let a = both-accepted (sheet-verdict s table fate) (exact-length (wanted s) log) e .0 in
-      opening-sound s table (both-accepted (opening-verdict s table) (chain-verdict s fate) a .0) .most
+module _ (s : List ℕ) (lent : ℕ) (fate : Fate s) where
+  few : sheet-verdict s lent fate ≡ Accepted → header s .n ≤ 32
+  unfolding sheet-verdict
+  few e = opening-sound s lent (both-accepted (opening-verdict s lent) (chain-verdict s fate) e .0) .most
 
-  pub listing-short : length (listing s table log fate) ≤ 538
+  pub listing-short : length (listing s lent fate) ≤ 538
   unfolding listing
-  listing-short = go (listing-verdict s table log fate) refl (outcomes (run (header s) (table-of s fate)))
+  listing-short = go (sheet-verdict s lent fate) refl (outcomes (run (header s) (table-of s fate)))
     where
-      go : (v : Verdict) → listing-verdict s table log fate ≡ v → (bytes : List ℕ) → length (text (lines-by v (header s) bytes)) ≤ 538
+      go : (v : Verdict) → sheet-verdict s lent fate ≡ v → (bytes : List ℕ) → length (text (lines-by v (header s) bytes)) ≤ 538
       go Accepted e bytes =
           let first = line-text (first-line (header s)) in
           let rest = text (station-lines (header s) bytes 0 (header s .n)) in

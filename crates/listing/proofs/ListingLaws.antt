@@ -23,11 +23,11 @@ use Rattle.sheet.specs.Reading.{table-of, reading-by, Reads}
 use Rattle.sheet.proofs.PromiseLaws.{opening-sound, opening-length}
 use Rattle.listing.specs.Lines.{refused, num, lines-by, run}
 use Rattle.listing.specs.Text.{text, laid}
-use Rattle.listing.specs.Promise.{wanted, front, listing-verdict, listing, Lists}
+use Rattle.listing.specs.Promise.{wanted, front, listing, Lists}
 use Rattle.listing.specs.Loops.{Puts, Readable, Runs, ListsWhole}
 use Rattle.listing.proofs.TextLaws.{laid-front}
 
-pub or-accepted : (v : Verdict) → v or-else verdict.Accepted ≡ v
+or-accepted : (v : Verdict) → v or-else verdict.Accepted ≡ v
 or-accepted verdict.Accepted = refl
 or-accepted (verdict.Refused c) = refl
 
@@ -79,21 +79,22 @@ module _ (s table₀ table₁ : List ℕ) {answer : Reading} (r : Reads s table�
         rw (both .1)
         (record { sound = opening-sound s _ opened; table-whole = q ∙ opening-length s _ opened })
 
-    pub whole-accepted : (log₀ log₁ text₀ text₁ : List ℕ) (n : ℕ) → Runs h table₁ log₀ log₁ text₀ text₁ n
+    pub whole-accepted : (log₀ log₁ text₀ text₁ : List ℕ) (n : ℕ) → length log₀ ≡ length table₀ → Runs h table₁ log₀ log₁ text₀ text₁ n
         → ListsWhole s table₀ table₁ log₀ log₁ text₀ text₁ n
-    unfolding listing-verdict listing
-    whole-accepted log₀ log₁ text₀ text₁ n runs =
+    unfolding listing
+    whole-accepted log₀ log₁ text₀ text₁ n q runs =
         let t = rw (both .0) at (r .table-is) in
+        let k = length-accepts (table-length (h .n) (h .t)) (length log₀) (rw (both .1) (q ∙ opening-length s _ opened)) in
         record {
           fate = r .fate;
-          puts = rw (both .0, ← both .1, ← t) (runs .puts);
+          puts = rw (both .0, ← both .1, ← t) (rw k at (runs .puts));
           table-is = r .table-is;
-          log-is = rw (both .0, ← both .1, ← t) (runs .log-is);
+          log-is = rw (both .0, ← both .1, ← t) (rw k at (runs .log-is));
         }
 
   pub whole-refused : (c : Cause) (k : ℕ) → answer ≡ reading.Refused c → k ≡ number c → (log₀ text₀ text₁ : List ℕ) (n : ℕ)
       → Puts text₀ text₁ 0 (text ((refused ∷ num k ∷ []) ∷ [])) n → ListsWhole s table₀ table₁ log₀ log₀ text₀ text₁ n
-  unfolding listing-verdict listing
+  unfolding listing
   whole-refused c k e q log₀ text₀ text₁ n p =
       let v = read-refused (sheet-verdict s (length table₀) (r .fate)) c (header s) (sym e ∙ r .answer-is) in
       record { fate = r .fate; puts = rw (v, ← q) p; table-is = r .table-is; log-is = rw v }
@@ -106,27 +107,24 @@ whole-of : (v : Verdict) (new old part : List ℕ) (k : ℕ) → k ≤ length ol
 whole-of verdict.Accepted new old part k h q e = laid-front part old k q h ∙ rw e
 whole-of (verdict.Refused c) new old part k h q e = rw e (take-append-drop k old)
 
-front-length : (s l : List ℕ) (k : ℕ) → k ≤ length l → k ≡ min (wanted s) (length l) → length (take k l) ≡ front s (length l)
-unfolding front
-front-length s l k h e = length-take-le k l h ∙ e
+module _ (s table₀ table log₀ bytes text₀ text₁ : List ℕ) (answer a b : ℕ) (ha : b ≤ length table₀) (hb : b ≤ length log₀)
+    (ea : a ≡ min (wanted s) (length table₀)) (eb : b ≡ min a (length log₀))
+    (ka : length table ≡ length (take b table₀)) (kb : length bytes ≡ length (take b log₀)) where
+  front-length : length (take b table₀) ≡ front s (length table₀) (length log₀)
+  unfolding front
+  front-length = length-take-le b table₀ ha ∙ eb ∙ rw ea
 
-module _ (s table₀ table log₀ bytes text₀ text₁ : List ℕ) (answer a b : ℕ) (ha : a ≤ length table₀) (hb : b ≤ length log₀)
-    (ea : a ≡ min (wanted s) (length table₀)) (eb : b ≡ min (wanted s) (length log₀))
-    (ka : length table ≡ length (take a table₀)) (kb : length bytes ≡ length (take b log₀)) where
-  pub lists-parts : ListsWhole s (take a table₀) table (take b log₀) bytes text₀ text₁ answer
-      → Lists s table₀ (table ++ drop a table₀) log₀ (bytes ++ drop b log₀) text₀ text₁ answer
+  pub lists-parts : ListsWhole s (take b table₀) table (take b log₀) bytes text₀ text₁ answer
+      → Lists s table₀ (table ++ drop b table₀) log₀ (bytes ++ drop b log₀) text₀ text₁ answer
   lists-parts w =
-      let fa = front-length s table₀ a ha ea in
-      let fb = front-length s log₀ b hb eb in
       let f = w .fate in
+      let v = sheet-verdict s (length (take b table₀)) f in
       record {
         fate = f;
-        answer-is = rw (← fa, ← fb) (omega (arith, w .puts .answer-is));
-        text-is = rw (← fa, ← fb) (w .puts .text-is);
-        table-is =
-            rw (← fa)
-            (whole-of (sheet-verdict s (length (take a table₀)) f) (table-of s f) table₀ table a ha (ka ∙ length-take-le a table₀ ha) (w .table-is));
+        answer-is = rw (← front-length) (omega (arith, w .puts .answer-is));
+        text-is = rw (← front-length) (w .puts .text-is);
+        table-is = rw (← front-length) (whole-of v (table-of s f) table₀ table b ha (ka ∙ length-take-le b table₀ ha) (w .table-is));
         log-is =
-            rw (← fa, ← fb)
-            (whole-of (listing-verdict s (length (take a table₀)) (length (take b log₀)) f) (log (run (header s) (table-of s f))) log₀ bytes b hb (kb ∙ length-take-le b log₀ hb) (w .log-is));
+            rw (← front-length)
+            (whole-of v (log (run (header s) (table-of s f))) log₀ bytes b hb (kb ∙ length-take-le b log₀ hb) (w .log-is));
       }

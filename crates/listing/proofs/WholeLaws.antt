@@ -10,15 +10,14 @@ use Rattle.line.specs.declared.cause.Cause.{Cause}
 use Rattle.line.specs.declared.cause.Verdict.{Verdict}
 use Rattle.line.specs.declared.cause.Verdict.the-variants.{Accepted, Refused}
 use Rattle.line.proofs.LineLaws.{table-bound}
-use Rattle.line.proofs.HeaderLaws.{header-sound, length-accepts}
+use Rattle.line.proofs.HeaderLaws.{header-sound}
 use Rattle.sheet.specs.Layout.{header}
 use Rattle.sheet.specs.Chain.{Fate}
 use Rattle.sheet.specs.Judgement.{sheet-form, line-and-length, opening-verdict, chain-verdict, sheet-verdict}
 use Rattle.sheet.specs.Loops.{SoundHeader}
 use Rattle.listing.specs.Lines.{verdict, lines}
 use Rattle.listing.specs.Text.{text}
-use Rattle.listing.specs.Promise.{wanted, front, listing-verdict, listing}
-use Rattle.listing.proofs.ListingLaws.{or-accepted}
+use Rattle.listing.specs.Promise.{wanted, front, listing}
 
 -- what is refused stays refused
 refused-stays : (a : Verdict) (c : Cause) (b : Verdict) → (a or-else Refused c) or-else b ≡ a or-else Refused c
@@ -31,10 +30,11 @@ module _ (s : List ℕ) (fate : Fate s) where
   headed = header-verdict (header s .n) (header s .t) (header s .upper) (header s .sender) (header s .value) (header s .marks)
 
   -- a sound header's table fits the largest
-  front-wanted : SoundHeader (header s) → (l : ℕ) → largest-table ≤ l → front s l ≡ wanted s
+  front-wanted : SoundHeader (header s) → (table log : ℕ) → largest-table ≤ table → largest-table ≤ log → front s table log ≡ wanted s
   unfolding front
-  front-wanted sound l h =
-      min-eq-left (le-trans (table-bound (header s .n) (header s .t) (header s .upper) (sound .most) (sound .fits)) h)
+  front-wanted sound table log ht hl =
+      let fits = table-bound (header s .n) (header s .t) (header s .upper) (sound .most) (sound .fits) in
+      rw (min-eq-left (le-trans fits ht)) (min-eq-left (le-trans fits hl))
 
   -- any other is refused by 1 to 6, whatever the table's length
   refused-early : (c : Cause) → headed ≡ Refused c → (l : ℕ) → sheet-verdict s l fate ≡ sheet-form s or-else Refused c
@@ -42,15 +42,14 @@ module _ (s : List ℕ) (fate : Fate s) where
   refused-early c e l = rw e (refused-stays (sheet-form s) c (chain-verdict s fate))
 
   module _ (table log : ℕ) (ht : largest-table ≤ table) (hl : largest-table ≤ log) where
-    verdict-same : (v : Verdict) → headed ≡ v → listing-verdict s (front s table) (front s log) fate ≡ verdict s fate
-    unfolding listing-verdict verdict headed
+    verdict-same : (v : Verdict) → headed ≡ v → sheet-verdict s (front s table log) fate ≡ verdict s fate
+    unfolding verdict headed
     verdict-same Accepted e =
         let sound = header-sound (header s .n) (header s .t) (header s .upper) (header s .sender) (header s .value) (header s .marks) e in
-        rw (front-wanted sound table ht, front-wanted sound log hl, length-accepts (wanted s) (wanted s) refl)
-        (or-accepted (sheet-verdict s (wanted s) fate))
+        rw (front-wanted sound table log ht hl)
     verdict-same (Refused c) e =
-        rw (refused-early c e (front s table), refused-early c e (wanted s)) (refused-stays (sheet-form s) c _)
+        rw (refused-early c e (front s table log), refused-early c e (wanted s))
 
-    pub listing-whole : listing s (front s table) (front s log) fate ≡ text (lines s fate)
+    pub listing-whole : listing s (front s table log) fate ≡ text (lines s fate)
     unfolding listing lines
     listing-whole = rw (verdict-same headed refl)

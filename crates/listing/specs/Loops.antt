@@ -15,7 +15,7 @@ use Rattle.sheet.specs.Reading.{table-of}
 use Rattle.sheet.specs.Loops.{SoundHeader}
 use Rattle.listing.specs.Lines.{lines-by, run}
 use Rattle.listing.specs.Text.{text, laid}
-use Rattle.listing.specs.Promise.{listing-verdict, listing}
+use Rattle.listing.specs.Promise.{listing}
 
 -- ---- writing
 
@@ -41,9 +41,9 @@ pub record Runs (h : Header) (table log₀ log₁ text₀ text₁ : List ℕ) (a
   pub puts : Puts text₀ text₁ 0 (text (lines-by (exact-length (table-length (h .n) (h .t)) (length log₀)) h (outcomes (run h table)))) answer
   pub log-is : log₁ ≡ written (exact-length (table-length (h .n) (h .t)) (length log₀)) (log (run h table)) log₀
 
--- the promise with buffers that are lent whole
+-- the promise with a table and a log of the same length that are lent whole
 pub record ListsWhole (s table₀ table₁ log₀ log₁ text₀ text₁ : List ℕ) (answer : ℕ) : Type 0 where
   pub fate : Fate s
-  pub puts : Puts text₀ text₁ 0 (listing s (length table₀) (length log₀) fate) answer
+  pub puts : Puts text₀ text₁ 0 (listing s (length table₀) fate) answer
   pub table-is : table₁ ≡ written (sheet-verdict s (length table₀) fate) (table-of s fate) table₀
-  pub log-is : log₁ ≡ written (listing-verdict s (length table₀) (length log₀) fate) (log (run (header s) (table-of s fate))) log₀
+  pub log-is : log₁ ≡ written (sheet-verdict s (length table₀) fate) (log (run (header s) (table-of s fate))) log₀

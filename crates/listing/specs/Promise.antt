@@ -4,9 +4,7 @@ use mathlib.Core.Path.{_≡_}
 use mathlib.Core.List.{List}
 use lib.ListN.{length}
 use Rattle.line.specs.Line.{table-length}
-use Rattle.line.specs.Cause.{_or-else_, written}
-use Rattle.line.specs.Header.{exact-length}
-use Rattle.line.specs.declared.cause.Verdict.{Verdict}
+use Rattle.line.specs.Cause.{written}
 use Rattle.broadcast.specs.Bytes.{log, outcomes}
 use Rattle.sheet.specs.Layout.{header}
 use Rattle.sheet.specs.Chain.{Fate}
@@ -19,29 +17,24 @@ use Rattle.listing.specs.Text.{text, laid}
 abbrev pub wanted : List ℕ → ℕ
 wanted s = table-length (header s .n) (header s .t)
 
--- how much of a buffer of length l is lent on: a front of that length, or all of it if it is shorter
-unfoldable pub front : List ℕ → ℕ → ℕ
-front s l = min (wanted s) l
+-- how much of a table and a log of these lengths is lent on: fronts of that length; if one of the two is shorter, fronts of its length
+unfoldable pub front : List ℕ → ℕ → ℕ → ℕ
+front s table log = min (min (wanted s) table) log
 
--- the verdict on a sheet with a table and a log of these lengths: the reader's, then cause 8 of the log
-unfoldable pub listing-verdict : (s : List ℕ) → ℕ → ℕ → Fate s → Verdict
-listing-verdict s table log fate = sheet-verdict s table fate or-else exact-length (wanted s) log
-
--- the text of the listing
-unfoldable pub listing : (s : List ℕ) → ℕ → ℕ → Fate s → List ℕ
-listing s table log fate =
-    text (lines-by (listing-verdict s table log fate) (header s) (outcomes (run (header s) (table-of s fate))))
+-- the text of the listing, where table and log of this length are lent
+unfoldable pub listing : (s : List ℕ) → ℕ → Fate s → List ℕ
+listing s lent fate = text (lines-by (sheet-verdict s lent fate) (header s) (outcomes (run (header s) (table-of s fate))))
 
 -- The promise. `table₀`, `log₀` and `text₀` are the lent buffers at entry, `table₁`, `log₁` and `text₁` at exit.
 pub record Lists (s table₀ table₁ log₀ log₁ text₀ text₁ : List ℕ) (answer : ℕ) : Type 0 where
-  -- what becomes of the sheet's chain: there is one fate only (`One-fate` of crate sheet)
+  -- what becomes of the sheet's chain: whatever shows it, verdict and table are the same (`One-fate` of crate sheet)
   pub fate : Fate s
   -- the length of the whole text, also where the buffer is shorter
-  pub answer-is : answer ≡ length (listing s (front s (length table₀)) (front s (length log₀)) fate)
+  pub answer-is : answer ≡ length (listing s (front s (length table₀) (length log₀)) fate)
   -- every byte of the text at exit: the listing from its start on, the rest as it was
-  pub text-is : text₁ ≡ laid text₀ 0 (listing s (front s (length table₀)) (front s (length log₀)) fate)
+  pub text-is : text₁ ≡ laid text₀ 0 (listing s (front s (length table₀) (length log₀)) fate)
   -- every byte of the table at exit: the sheet's from its start on and the rest as it was, or all as it was
-  pub table-is : table₁ ≡ written (sheet-verdict s (front s (length table₀)) fate) (laid table₀ 0 (table-of s fate)) table₀
+  pub table-is : table₁ ≡ written (sheet-verdict s (front s (length table₀) (length log₀)) fate) (laid table₀ 0 (table-of s fate)) table₀
   -- every byte of the log at exit: the run's from its start on and the rest as it was, or all as it was
   pub log-is : log₁
-      ≡ written (listing-verdict s (front s (length table₀)) (front s (length log₀)) fate) (laid log₀ 0 (log (run (header s) (table-of s fate)))) log₀
+      ≡ written (sheet-verdict s (front s (length table₀) (length log₀)) fate) (laid log₀ 0 (log (run (header s) (table-of s fate)))) log₀

@@ -13,11 +13,11 @@ use Rattle.listing.specs.Promise.{front, listing}
 abbrev pub Listing-whole : Type 0
 Listing-whole =
     (s : List ℕ) (table log : ℕ) (fate : Fate s) → largest-table ≤ table → largest-table ≤ log
-    → listing s (front s table) (front s log) fate ≡ text (lines s fate)
+    → listing s (front s table log) fate ≡ text (lines s fate)
 
 -- no listing is longer than 538 bytes
 abbrev pub Listing-short : Type 0
-Listing-short = (s : List ℕ) (table log : ℕ) (fate : Fate s) → length (listing s table log fate) ≤ 538
+Listing-short = (s : List ℕ) (lent : ℕ) (fate : Fate s) → length (listing s lent fate) ≤ 538
 
 -- every byte of a buffer in which others are laid from the place `at` on
 pub record Lies (buffer : List ℕ) (at : ℕ) (bytes : List ℕ) : Type 0 where

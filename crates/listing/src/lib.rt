@@ -34,7 +34,7 @@ fn wanted(sheet: &[u8]) -> usize
 
 // The length, or the buffer's where that is less.
 fn within(len: usize, most: usize) -> usize
-    ensures { λ r. ⌜ (r ≡ min len most) × (r ≤ most) ⌝ }
+    ensures { λ r. ⌜ (r ≡ min len most) × (r ≤ len) × (r ≤ most) ⌝ }
 {
     if len < most { len } else { most }
 }
@@ -80,8 +80,10 @@ fn list_run(header: Header, table: &[u8], log: &mut [u8], text: &mut [u8]) -> us
     list_outcomes(header, table, log, &mut outcomes[..m], text)
 }
 
-// Reads the sheet into all of the table, and rehearses with all of the log.
+// Reads the sheet into all of the table, and rehearses with all of the log, which is as long: cause 8 of the one is that of the other, and the reader gives it
+// before anything is written.
 fn list_whole(sheet: &[u8], table: &mut [u8], log: &mut [u8], text: &mut [u8]) -> usize
+    requires { ⌜ length (now log) ≡ length (now table) ⌝ }
     ensures { λ r. ⌜ ListsWhole (now (sheet .entry)) (now (table .entry)) (now (table .exit)) (now (log .entry)) (now (log .exit)) (now (text .entry)) (now (text .exit)) r ⌝ }
 {
     let reading = sheet::read(sheet, table);
@@ -91,13 +93,13 @@ fn list_whole(sheet: &[u8], table: &mut [u8], log: &mut [u8], text: &mut [u8]) -
     }
 }
 
-// Writes the listing of a sheet at the start of the text, as far as the text goes, and answers the listing's length. The fronts of the table and the
-// log that have the line's table length are lent on; the rest of them is left as it was.
+// Writes the listing of a sheet at the start of the text, as far as the text goes, and answers the listing's length. Fronts of the table and the log, both of
+// the line's table length, are lent on; the rest is left as it was. If one is shorter, so are both fronts, and the sheet is refused by 8 if by nothing before.
 pub fn list(sheet: &[u8], table: &mut [u8], log: &mut [u8], text: &mut [u8]) -> usize
     ensures { λ r. ⌜ Lists (now (sheet .entry)) (now (table .entry)) (now (table .exit)) (now (log .entry)) (now (log .exit)) (now (text .entry)) (now (text .exit)) r ⌝ }
 {
     let len = wanted(sheet);
     let a = within(len, table.len());
-    let b = within(len, log.len());
-    list_whole(sheet, &mut table[..a], &mut log[..b], text)
+    let b = within(a, log.len());
+    list_whole(sheet, &mut table[..b], &mut log[..b], text)
 }

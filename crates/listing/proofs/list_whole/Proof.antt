@@ -32,7 +32,7 @@ same-length-3 : tie.Need-same-length-3
 same-length-3 c = search needs
 
 returns : tie.Need-returns
-returns c = whole-accepted _ _ _ (c .before .before .before .before .before .before .before .before .before .before .before .before .before .read .ensures) _ (c .before .before .before .before .before .before .before .before .before .reading .given .1) _ _ _ _ _ (c .before .before .before .before .list-run .ensures)
+returns c = whole-accepted _ _ _ (c .before .before .before .before .before .before .before .before .before .before .before .before .before .read .ensures) _ (c .before .before .before .before .before .before .before .before .before .reading .given .1) _ _ _ _ _ (c .before .before .before .before .before .before .before .before .before .before .before .before .before .before .before .before .before .before .before .pre) (c .before .before .before .before .list-run .ensures)
 
 same-length-4 : tie.Need-same-length-4
 same-length-4 c = search needs
