@@ -83,7 +83,7 @@ fn unmarked(sheet: &[u8], i: usize, n: u8, marks: u32) -> bool
 }
 
 // Cause 13, by the places seen before. A place that passes is seen from now on.
-fn look(seen: &mut [u8; 36864], p: usize) -> Verdict
+fn look(seen: &mut [u8; Line::LARGEST_TABLE], p: usize) -> Verdict
     requires { ⌜ (p < 36864) × (length (now seen) ≡ 36864) ⌝ }
     ensures { λ r. ⌜ (r ≡ looked (now (seen .entry)) p) × (now (seen .exit) ≡ marked-seen r (now (seen .entry)) p) ⌝ }
 {
@@ -95,7 +95,14 @@ fn look(seen: &mut [u8; 36864], p: usize) -> Verdict
 }
 
 // Causes 11, 12 and 13, of the record with index i.
-fn record(sheet: &[u8], i: usize, n: u8, last: u8, marks: u32, seen: &mut [u8; 36864]) -> Verdict
+fn record(
+    sheet: &[u8],
+    i: usize,
+    n: u8,
+    last: u8,
+    marks: u32,
+    seen: &mut [u8; Line::LARGEST_TABLE],
+) -> Verdict
     requires { ⌜ Lined (now sheet) n last marks × Record (now sheet) i × (length (now seen) ≡ 36864) ⌝ }
     ensures { λ r. ⌜ (r ≡ record-by (now (sheet .entry)) i (now (seen .entry))) × (now (seen .exit) ≡ marked-seen r (now (seen .entry)) (place-of (now (sheet .entry)) i)) ⌝ }
 {
@@ -109,7 +116,14 @@ fn record(sheet: &[u8], i: usize, n: u8, last: u8, marks: u32, seen: &mut [u8; 3
 }
 
 // The m records of the chain, in its order: the first hit.
-fn in_order(sheet: &[u8], m: usize, n: u8, last: u8, marks: u32, seen: &mut [u8; 36864]) -> Verdict
+fn in_order(
+    sheet: &[u8],
+    m: usize,
+    n: u8,
+    last: u8,
+    marks: u32,
+    seen: &mut [u8; Line::LARGEST_TABLE],
+) -> Verdict
     requires { ⌜ Lined (now sheet) n last marks × Ends (now sheet) m × (now seen ≡ unseen) ⌝ }
     ensures { λ r. ⌜ r ≡ records-verdict (now (sheet .entry)) m ⌝ }
 {
@@ -131,6 +145,6 @@ pub(crate) fn records(sheet: &[u8], m: usize, n: u8, last: u8, marks: u32) -> Ve
     requires { ⌜ Lined (now sheet) n last marks × Ends (now sheet) m ⌝ }
     ensures { λ r. ⌜ r ≡ records-verdict (now (sheet .entry)) m ⌝ }
 {
-    let mut seen = [0u8; 36864];
+    let mut seen = [0u8; Line::LARGEST_TABLE];
     in_order(sheet, m, n, last, marks, &mut seen)
 }

@@ -1,17 +1,20 @@
 // What is refused: causes 2, 3, 4, 5, 7 and 8, the lowest first.
 ghost use mathlib.Core.Path.{_≡_};
-ghost use Prim.Native.Nat.{_+_, _*_};
+ghost use Prim.Native.Nat.{_+_};
+ghost use Rattle.line.specs.Line.{rounds};
 ghost use Rattle.station.specs.Judgement.{foreign-state, is-done, state-verdict, station-verdict, telling-verdict, taking-verdict, opening-verdict};
 use crate::Station;
+use line::Line;
 use line::cause::Cause;
 use line::cause::Verdict;
 use line::header;
 
-// R + 1, computed where it never wraps.
+// R + 1, the round of a done station.
 fn last_round(t: u8) -> usize
-    ensures { λ r. ⌜ r ≡ 3 * t + 7 ⌝ }
+    ensures { λ r. ⌜ r ≡ rounds t + 1 ⌝ }
 {
-    3 * (t as usize) + 7
+    let line = Line { n: 0, t, upper: 0 };
+    line.rounds() + 1
 }
 
 // A round outside 1 to R + 1, a value above 1, z or grade above 2.

@@ -4,6 +4,7 @@ ghost use Prim.Native.Nat.{ℕ, _+_, _-_, _/_, _≤_, _<_};
 ghost use lib.ListN.{length};
 ghost use Rattle.station.specs.Answers.{Opens, Tells, Advances, Results};
 ghost use Rattle.station.specs.Automaton.{ballot-or-silence, advanced-or-same};
+use line::Line;
 use line::cause::Cause;
 use line::cause::Verdict;
 
@@ -100,7 +101,7 @@ pub fn ballot_or_silence(s: Station) -> u8
     let verdict = judge::telling(s);
     match verdict {
         Verdict::Accepted => step::tell(s),
-        Verdict::Refused(_) => 255,
+        Verdict::Refused(_) => Line::SILENCE,
     }
 }
 

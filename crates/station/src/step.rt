@@ -1,4 +1,4 @@
-// What an accepted station does: the only code that knows the rounds.
+// What an accepted station does: the only code that knows what is done in which round.
 ghost use mathlib.Core.Path.{_≡_};
 ghost use Prim.Native.Nat.{ℕ, _+_, _-_, _*_, _/_, _%_, _≤_, _<_};
 ghost use lib.ListN.{length};
