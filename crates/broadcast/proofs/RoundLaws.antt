@@ -1,16 +1,18 @@
 -- The parts of a broadcast, and what a station does in them, by the tests that code makes of a round. Assumes nothing.
 use Prim.Native.Nat.{ℕ, zero, suc, _+_, _-_, _/_, _%_, _≤_}
-use mathlib.Core.Path.{_≡_, refl, ap, _∙_}
+use mathlib.Core.Path.{_≡_, refl, sym, ap, _∙_}
 use mathlib.Core.Logic.{_≢_}
 use mathlib.Core.List.{List}
 use native.Mathlib.Omega.{arith}
 use lib.Dec.{eqb}
 use borrow.Author.Tests.{eq-eqb, ne-eqb}
 use Rattle.line.specs.Count.{if_then_else_}
+use Rattle.line.specs.Line.{rounds}
 use Rattle.line.specs.Ballot.{silence}
-use Rattle.broadcast.specs.Exchange.{Row}
+use Rattle.broadcast.specs.Exchange.{Row, flag-of}
 use Rattle.broadcast.specs.Broadcast.{Part, from-sender, first-of, second-of, from-king, part, speaks}
-use Rattle.broadcast.specs.Station.{Setup, State, opened, held, ballot, next, taken, advance, at, after}
+use Rattle.broadcast.specs.Station.{Setup, State, running, done, opened, held, ballot, next, taken, advance, result, at, after}
+use Rattle.broadcast.specs.Theorems.{DoneAfter, ValueWithoutEffect}
 use Rattle.line.proofs.BallotLaws.{read-sender-bit}
 use Rattle.broadcast.proofs.TallyLaws.{z-bound, y-bit, grade-bound, obey-bit}
 
@@ -88,3 +90,50 @@ module _ (c : Setup) (v : ℕ) (rows : ℕ → List ℕ) where
   unfolding after opened advance
   after-round zero = refl
   after-round (suc m) = taken-round c (after c v rows m) (at (rows (suc m))) _ ∙ omega (arith, after-round m)
+
+-- ---- after any rows: its result
+
+module _ (c : Setup) (s : State) where
+  pub running-in : (r : ℕ) → s .round ≡ r → r ≤ rounds (c .t) → result c s ≡ running r
+  unfolding result
+  running-in r e h = rw (e, ne-eqb r (rounds (c .t) + 1) (omega arith))
+
+  pub done-in : s .round ≡ suc (rounds (c .t)) → result c s ≡ done (s .value) (s .grade) (flag-of (s .grade))
+  unfolding result
+  done-in e = rw (e, eq-eqb (suc (rounds (c .t))) (rounds (c .t) + 1) (omega arith))
+
+pub done-after : (c : Setup) (v : ℕ) (rows : ℕ → List ℕ) → DoneAfter c v rows
+done-after c v rows = record {
+  round-is = λ m. omega (arith, after-round c v rows m);
+  running-before = λ m h. running-in c (after c v rows m) (m + 1) (omega (arith, after-round c v rows m)) (omega arith);
+  done-after = done-in c (after c v rows (rounds (c .t))) (after-round c v rows (rounds (c .t)));
+}
+
+-- ---- after any rows: the value it was opened with is of no effect unless it is the sender's
+
+module _ (c : Setup) (other : c .own ≢ c .sender) (rows : ℕ → List ℕ) where
+  silent : (v : ℕ) → ballot c (after c v rows zero) ≡ silence
+  unfolding after opened
+  silent v = ballot-sender c (opened v) (is-sender 1 refl) ∙ rw (ne-eqb (c .own) (c .sender) other)
+
+  module _ (v w : ℕ) where
+    same-state : (m : ℕ) → after c v rows (suc m) ≡ after c w rows (suc m)
+    unfolding after opened advance taken next
+    same-state zero = rw (is-sender 1 refl)
+    same-state (suc m) = ap (λ (s : State). advance c s (at (rows (suc (suc m))))) (same-state m)
+
+    same-ballot : (m : ℕ) → ballot c (after c v rows m) ≡ ballot c (after c w rows m)
+    same-ballot zero = silent v ∙ sym (silent w)
+    same-ballot (suc m) = ap (ballot c) (same-state m)
+
+    same-result : (m : ℕ) → result c (after c v rows m) ≡ result c (after c w rows m)
+    same-result zero = done-after c v rows .running-before 0 (omega arith) ∙ sym (done-after c w rows .running-before 0 (omega arith))
+    same-result (suc m) = ap (result c) (same-state m)
+
+pub value-without-effect : (c : Setup) → c .own ≢ c .sender → (v w : ℕ) (rows : ℕ → List ℕ) → ValueWithoutEffect c v w rows
+value-without-effect c h v w rows = record {
+  silent-at-first = (silent c h rows v, silent c h rows w);
+  states = same-state c h rows v w;
+  ballots = same-ballot c h rows v w;
+  results = same-result c h rows v w;
+}

@@ -6,7 +6,7 @@ use mathlib.Core.List.{List}
 use native.Mathlib.Omega.{arith}
 use native.Mathlib.Numerals.{add-one}
 use lib.Dec.{eqb}
-use borrow.Author.Tests.{eqb-true, eq-eqb, ne-eqb}
+use borrow.Author.Tests.{eqb-true}
 use Rattle.line.specs.Count.{if_then_else_}
 use Rattle.line.specs.Line.{rounds}
 use Rattle.line.specs.Ballot.{silence, read-sender}
@@ -15,6 +15,7 @@ use Rattle.broadcast.specs.Broadcast.{phases, first-round, x-after, z-af
 use Rattle.broadcast.specs.Station.{Setup, State, running, done, opened, held, ballot, next, taken, advance, result, at, after}
 use Rattle.broadcast.proofs.RowLaws.{seconds-same, z-same, y-same}
 use Rattle.broadcast.proofs.PartLaws.{part-sender, part-first, part-second, part-king, next-first, first-is, by-parts}
+use Rattle.broadcast.proofs.RoundLaws.{running-in, done-in}
 use Rattle.broadcast.proofs.SaidLaws.{said-sender, said-first, said-second, said-king}
 
 -- ---- station j of a run, opened with v
@@ -130,13 +131,12 @@ module _ (S : Setting) (sender value : ℕ) (in-line : sender < S .n) (few : S .
   -- ---- what it answers
 
   pub is-running : (r : ℕ) (s : State) → r ≤ rounds (S .t) → Knows r s → result its-setup s ≡ running r
-  unfolding result
-  is-running r s l k = rw (k .in-round, ne-eqb r (rounds (S .t) + 1) (omega arith))
+  is-running r s l k = running-in its-setup s r (k .in-round) l
 
   pub is-done : (s : State) → Knows (suc (rounds (S .t))) s
       → result its-setup s ≡ done (value-of S sender value j) (final-grade S sender value j) (final-flag S sender value j)
-  unfolding result Holds phases value-of final-grade final-flag
+  unfolding Holds phases value-of final-grade final-flag
   is-done s k =
       let e : suc (rounds (S .t)) ≡ first-round (S .t + 1) + 2 = omega (arith, first-is (S .t + 1)) in
       let h : Holds (from-king (S .t + 1)) s = rw (e, part-king (S .t + 1)) at (k .holds) in
-      rw (k .in-round, eq-eqb (suc (rounds (S .t))) (rounds (S .t) + 1) (omega arith), h .0, h .1)
+      done-in its-setup s (k .in-round) ∙ rw (h .0, h .1)

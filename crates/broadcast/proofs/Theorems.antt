@@ -1,7 +1,8 @@
 -- The theorems: each statement of specs/Theorems.antt, under its name, and the law that proves it. Assumes nothing.
-use Rattle.broadcast.specs.Theorems.{Blanks-count-for-neither, Ballots-make-n, Definition-6, Definition-6-alone, Exchange-effect, Log-bytes, Sent-by-rounds, Outcome-bytes, Table-effect, Demand-3, Station-follows-run, Stations-make-run}
+use Rattle.broadcast.specs.Theorems.{Blanks-count-for-neither, Ballots-make-n, Definition-6, Definition-6-alone, Exchange-effect, Log-bytes, Sent-by-rounds, Outcome-bytes, Table-effect, Demand-3, Station-follows-run, Stations-make-run, Done-after-rows, Value-at-sender}
 use Rattle.broadcast.proofs.TallyLaws.{blanks-for-neither, seconds-make-n}
 use Rattle.broadcast.proofs.ExchangeLaws.{graded-consensus}
+use Rattle.broadcast.proofs.RoundLaws.{done-after, value-without-effect}
 use Rattle.broadcast.proofs.BytesLaws.{log-size, log-at, graded-consensus-alone, two-threshold-bytes, outcome-ranges-of}
 use Rattle.broadcast.proofs.SaidLaws as said
 use Rattle.broadcast.proofs.EffectLaws.{same-exchange, same-effect}
@@ -42,3 +43,9 @@ station-follows-run = follows
 
 pub stations-make-run : Stations-make-run
 stations-make-run = make-run
+
+pub done-after-rows : Done-after-rows
+done-after-rows = done-after
+
+pub value-at-sender : Value-at-sender
+value-at-sender = value-without-effect

@@ -1,6 +1,6 @@
 -- The statements that proofs/Theorems.antt proves, each under the same name in lower case. Their hypotheses are document 01's, and where one
 -- of these is not needed it is left out.
-use Prim.Native.Nat.{ℕ, _+_, _-_, _*_, _≤_, _<_}
+use Prim.Native.Nat.{ℕ, suc, _+_, _-_, _*_, _≤_, _<_}
 use mathlib.Core.Path.{_≡_}
 use mathlib.Core.Logic.{_≢_}
 use mathlib.Core.Bool.{Bool, true, false}
@@ -11,7 +11,7 @@ use Rattle.line.specs.Marks.{marked}
 use Rattle.line.specs.Ballot.{blank}
 use Rattle.broadcast.specs.Exchange.{Row, seconds, Setting, y, grade, flag-of}
 use Rattle.broadcast.specs.Broadcast.{x-after, z-after, y-after, part, speaks, sent}
-use Rattle.broadcast.specs.Station.{running, done, ballot, result, at, after}
+use Rattle.broadcast.specs.Station.{Setup, running, done, ballot, result, at, after}
 use Rattle.broadcast.specs.Bytes.{exchange-outcomes, Run, setting-of, sender-of, log, outcomes, setup, column}
 use Rattle.broadcast.specs.Guarantees.{Good, GradedConsensus, TwoThreshold}
 
@@ -162,3 +162,25 @@ abbrev pub Stations-make-run : Type 0
 Stations-make-run =
     (R : Run) → Fits (R .n) (R .t) (R .T) → 1 ≤ R .sender → R .sender ≤ R .n
     → (v : ℕ → ℕ) → v (sender-of R) ≡ R .value → MakeRun R v
+
+-- ---- one station, on any rows
+
+-- "It is done after exactly R accepted rows.": opened with any value, it is running after fewer rows, whatever they hold, and done after R
+pub record DoneAfter (c : Setup) (v : ℕ) (rows : ℕ → List ℕ) : Type 0 where
+  pub round-is : (m : ℕ) → after c v rows m .round ≡ m + 1
+  pub running-before : (m : ℕ) → m < rounds (c .t) → result c (after c v rows m) ≡ running (m + 1)
+  pub done-after : let s = after c v rows (rounds (c .t)) in result c s ≡ done (s .value) (s .grade) (flag-of (s .grade))
+
+abbrev pub Done-after-rows : Type 0
+Done-after-rows = (c : Setup) (v : ℕ) (rows : ℕ → List ℕ) → DoneAfter c v rows
+
+-- "a value, which matters only at the sender": any other station, opened with v or with w, is silent in round 1 and from its first row on
+-- the same; so it tells the same ballots and answers the same results, on any rows
+pub record ValueWithoutEffect (c : Setup) (v w : ℕ) (rows : ℕ → List ℕ) : Type 0 where
+  pub silent-at-first : (ballot c (after c v rows 0) ≡ 255) × (ballot c (after c w rows 0) ≡ 255)
+  pub states : (m : ℕ) → after c v rows (suc m) ≡ after c w rows (suc m)
+  pub ballots : (m : ℕ) → ballot c (after c v rows m) ≡ ballot c (after c w rows m)
+  pub results : (m : ℕ) → result c (after c v rows m) ≡ result c (after c w rows m)
+
+abbrev pub Value-at-sender : Type 0
+Value-at-sender = (c : Setup) → c .own ≢ c .sender → (v w : ℕ) (rows : ℕ → List ℕ) → ValueWithoutEffect c v w rows

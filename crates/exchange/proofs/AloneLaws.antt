@@ -12,7 +12,7 @@ use lib.Seq.{getD-take, length-take-le, take-all, ext-getD}
 use Rattle.line.specs.Count.{if_then_else_, count}
 use Rattle.line.specs.Line.{most-stations, exchange-length, outcomes-length}
 use Rattle.line.specs.Marks.{marked}
-use Rattle.line.specs.Cause.{written}
+use Rattle.line.specs.Cause.{code, written}
 use Rattle.line.specs.Header.{station-count, thresholds, marks-within}
 use Rattle.line.specs.declared.cause.Verdict.{Verdict}
 use Rattle.line.specs.declared.cause.Verdict.the-variants.{Accepted}
@@ -188,6 +188,7 @@ module _ (n t T marks : ℕ) (inputs : List ℕ) where
       → after ≡ written answer (exchange-outcomes n t T marks inputs table) before → Exchanged n t T marks inputs table before after answer
   exchanged table before after answer e q = record {
     answer-is = e;
+    number-is = ap code e;
     outcomes-are = q;
     graded-consensus = λ a.
         let r = ready (length table) (length before) answer e a in

@@ -8,7 +8,7 @@ use lib.ListN.{length}
 use Rattle.line.specs.Count.{count}
 use Rattle.line.specs.Line.{exchange-length, outcomes-length}
 use Rattle.line.specs.Marks.{marked}
-use Rattle.line.specs.Cause.{refused-if, _or-else_, written}
+use Rattle.line.specs.Cause.{code, refused-if, _or-else_, written}
 use Rattle.line.specs.Header.{station-count, thresholds, marks-within, exact-length}
 use Rattle.line.specs.declared.cause.Cause.the-variants.{Value}
 use Rattle.line.specs.declared.cause.Verdict.{Verdict}
@@ -40,5 +40,6 @@ exchange-verdict n t T marks inputs table outcomes =
 -- The promise, for all arguments: `before` and `after` are the outcomes' bytes at entry and at exit.
 pub record Exchanged (n t T marks : ℕ) (inputs table before after : List ℕ) (answer : Verdict) : Type 0 where
   pub answer-is : answer ≡ exchange-verdict n t T marks inputs (length table) (length before)
+  pub number-is : code answer ≡ code (exchange-verdict n t T marks inputs (length table) (length before))
   pub outcomes-are : after ≡ written answer (exchange-outcomes n t T marks inputs table) before
   pub graded-consensus : answer ≡ Accepted → GradedConsensus n t T (marked marks) (at inputs) (value-at after) (grade-at after)
