@@ -1,4 +1,4 @@
--- Laws of what one station does in an exchange and at the king's word. No module beside this one opens these definitions, but for the laws
+-- Laws of what one station does in an exchange and at the king's word. No other module of this crate opens these definitions, but for the laws
 -- that two rows with the same bytes are taken alike (RowLaws). Assumes nothing.
 use Prim.Native.Nat.{ℕ, zero, suc, _+_, _-_, _≤_, _<_}
 use mathlib.Core.Path.{_≡_, refl, sym, ap, _∙_}

@@ -25,7 +25,8 @@ pub record GradedConsensus (n t T : ℕ) (bad : ℕ → Bool) (x y g : ℕ → �
   -- f at most T, and a good station has grade 2: all good stations have its y
   pub detection : count n bad ≤ T → (i : ℕ) → Good n bad i → g i ≡ 2 → (j : ℕ) → Good n bad j → y j ≡ y i
 
--- Demand 3, of a whole run (source 001, Definition 2): station i decides `decides i`, and raises its flag exactly if `flags i` is 1.
+-- Demand 3, of a whole run (source 001, Definition 2): station i decides `decides i`, and raises its flag exactly if `flags i` is 1. The sentences quoted
+-- are the demand's own (docs/PROMISES.md, "What is asked").
 pub record TwoThreshold (n t T : ℕ) (bad : ℕ → Bool) (sender value : ℕ) (decides flags : ℕ → ℕ) : Type 0 where
   -- "if f is at most t, all good stations decide one value and none raises its flag"
   pub agreement : count n bad ≤ t → (i j : ℕ) → Good n bad i → Good n bad j → decides i ≡ decides j

@@ -124,7 +124,7 @@ Demand-3 =
     (R : Run) → Fits (R .n) (R .t) (R .T) → R .value ≤ 1
     → TwoThreshold (R .n) (R .t) (R .T) (marked (R .marks)) (sender-of R) (R .value) (value-at (outcomes R)) (flag-at (outcomes R))
 
--- ---- demand 2
+-- ---- demand 2; the sentences quoted are the demand's own (docs/PROMISES.md, "What is asked")
 
 -- "Good stations run singly on the rows they received send those ballots and reach those outcomes": station j, opened with v, on the rows
 -- that it received in the run

@@ -56,7 +56,7 @@ abbrev pub told-word : Told → ℕ
 told-word (told.Ballot b) = b
 told-word (told.Refused c) = 0
 
--- the next state; the state handed in where it is refused: "Left as it was: the station"
+-- the next state; the state handed in where it is refused, since causes 7 and 8 leave the station as it was
 abbrev pub advanced-word : ℕ → Advanced → ℕ
 advanced-word state (advanced.Next s) = state-word s
 advanced-word state (advanced.Refused c) = state

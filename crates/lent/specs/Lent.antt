@@ -13,7 +13,7 @@ use Rattle.lent.specs.declared.Taken.{Taken}
 abbrev pub taken : Station → List ℕ → Taken
 taken s row = record { station = advanced-or-same s row; answer = code (taking-verdict s (length row)) }
 
--- `vembopu_advance_lent`: the answer, and the station at exit. "Left as it was: .. the station"
+-- `vembopu_advance_lent`: the answer, and the station at exit, as it was where the row is refused
 pub record AdvancesLent (before : Station) (row : List ℕ) (after : Station) (r : ℕ) : Type 0 where
   pub answer-is : r ≡ code (taking-verdict before (length row))
   pub station-is : after ≡ advanced-or-same before row

@@ -1,5 +1,6 @@
 -- The line of n stations with the thresholds t and T (document 01, "Names").
--- In every definition stations are counted from 0: station i is the document's station i + 1. Rounds are numbered from 1, as in the document.
+-- In the definitions of a run and of its tables stations are counted from 0: station i is the document's station i + 1. What is handed in keeps the
+-- document's numbers, from 1: a sender, an own number, a record's from and to. Rounds are numbered from 1, as in the document.
 use Prim.Native.Nat.{ℕ, _+_, _-_, _*_, _≤_, _<_}
 
 -- "n: stations, 1 to 32."

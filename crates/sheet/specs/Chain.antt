@@ -43,7 +43,8 @@ pub record Ends (s : List ℕ) (m : ℕ) : Type 0 where
   pub chained : (a : ℕ) → a < m → Record s (reached s a)
   pub zero-there : reached s m ≡ 0
 
--- What becomes of a chain. `Has-fate` and `One-fate` of Theorems.antt: every chain has a fate, and only one.
+-- What becomes of a chain, with the positions that show it. Every chain has a fate (`Has-fate` of Theorems.antt), of one kind only (`Only-one`); whichever positions
+-- show it, verdict and table are the same (`One-fate`).
 pub data Fate (s : List ℕ) : Type 0 where
   leaves : Leaves s → Fate s
   again : Again s → Fate s

@@ -52,7 +52,7 @@ reading-by (verdict.Refused c) h = reading.Refused c
 
 -- The promise, for every sheet and every buffer. `table₀` is the lent table at entry, `table₁` at exit.
 pub record Reads (s table₀ table₁ : List ℕ) (answer : Reading) : Type 0 where
-  -- what becomes of the sheet's chain: there is one fate only (`One-fate` of Theorems.antt)
+  -- what becomes of the sheet's chain: whatever shows it, verdict and table are the same (`One-fate` of Theorems.antt)
   pub fate : Fate s
   -- the header's numbers, or the refusal
   pub answer-is : answer ≡ reading-by (sheet-verdict s (length table₀) fate) (header s)
