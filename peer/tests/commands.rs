@@ -114,7 +114,7 @@ fn comparing() {
     let (status, printed, said) = peer(&["compare", "7", "3"], &[]);
     assert_eq!((status, said.as_str()), (0, ""));
     let printed = String::from_utf8(printed).unwrap();
-    assert!(printed.starts_with("seed 7, 3 turns; ") && printed.ends_with("\n8 passed, 0 failed\n"));
+    assert!(printed.starts_with("seed 7, 3 turns; ") && printed.ends_with("\n9 passed, 0 failed\n"));
     for words in [&["compare", "x"][..], &["compare", "1", "2", "3"], &["bench", "1"]] {
         assert_eq!(peer(words, &[]).0, 2);
     }
