@@ -2,7 +2,7 @@
 //! an input is too short for are 0. The lengths of lent buffers are drawn, mostly the right ones.
 
 use super::features::{bits, features, of_ballot, of_outcomes, of_result, of_row, of_sheet};
-use super::pool::Features;
+use super::pool::{Features, Shape};
 use crate::compare::lent::Lending;
 use crate::compare::report::Compared;
 use crate::compare::{lines, reader, stations};
@@ -23,6 +23,7 @@ type Give = Box<dyn Fn(&mut Lot, &[u8]) -> Tried>;
 /// A call that is given inputs.
 pub struct Call {
     pub name: &'static str,
+    pub shape: Shape,
     /// It is given one in so many inputs.
     pub one_in: u64,
     /// The numbers that it can answer.
@@ -33,25 +34,26 @@ pub struct Call {
 impl Call {
     pub fn new(
         name: &'static str,
+        shape: Shape,
         one_in: u64,
         numbers: &'static [u8],
         give: impl Fn(&mut Lot, &[u8]) -> Tried + 'static,
     ) -> Call {
-        Call { name, one_in, numbers, give: Box::new(give) }
+        Call { name, shape, one_in, numbers, give: Box::new(give) }
     }
 }
 
 /// The calls of the static libraries.
 pub fn linked() -> Vec<Call> {
     vec![
-        Call::new("read", 1, &reader::NUMBERS, read),
-        Call::new("rehearse", 1, &lines::REHEARSE, rehearse),
-        Call::new("exchange", 1, &lines::EXCHANGE, exchange),
-        Call::new("open", 1, &stations::OPEN, |_, input| open(input)),
-        Call::new("ballot", 1, &stations::ASK, |_, input| ballot(input)),
-        Call::new("advance", 1, &stations::ADVANCE, advance),
-        Call::new("advance_lent", 1, &stations::ADVANCE, advance_lent),
-        Call::new("result", 1, &stations::ASK, |_, input| result(input)),
+        Call::new("read", Shape::Sheet, 1, &reader::NUMBERS, read),
+        Call::new("rehearse", Shape::Line, 1, &lines::REHEARSE, rehearse),
+        Call::new("exchange", Shape::Line, 1, &lines::EXCHANGE, exchange),
+        Call::new("open", Shape::Station, 1, &stations::OPEN, |_, input| open(input)),
+        Call::new("ballot", Shape::Station, 1, &stations::ASK, |_, input| ballot(input)),
+        Call::new("advance", Shape::Station, 1, &stations::ADVANCE, advance),
+        Call::new("advance_lent", Shape::Station, 1, &stations::ADVANCE, advance_lent),
+        Call::new("result", Shape::Station, 1, &stations::ASK, |_, input| result(input)),
     ]
 }
 
@@ -223,6 +225,6 @@ mod tests {
         let seeds = 0..40;
         assert!(seeds.clone().any(|seed| numbers(sheet, seed) == [0, 0, 0, 0, 7, 7, 7, 7]));
         assert!(seeds.clone().any(|seed| numbers(&opened, seed)[3..] == [0, 0, 0, 0, 0]));
-        assert!(seeds.clone().any(|seed| numbers(&opened, seed)[5..7] == [8, 0]));
+        assert!(seeds.clone().any(|seed| numbers(&opened, seed)[5..7] == [8, 8]));
     }
 }

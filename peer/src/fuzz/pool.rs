@@ -12,16 +12,31 @@ pub type Features = [u8; 8];
 /// An answer told coarsely: the call's place in the list, its number, and the features.
 pub type Signature = (usize, u8, Features);
 
-/// The seeds, then the inputs of each call. One that makes several signatures stands once for each.
+/// What an input is to a call.
+#[derive(Clone, Copy)]
+pub enum Shape {
+    Sheet,
+    Line,
+    Station,
+}
+
+/// The inputs by the shape that they are kept for, the accepted ones apart. One that makes several signatures
+/// stands once for each.
 pub struct Pool {
-    groups: Vec<Vec<Rc<[u8]>>>,
+    groups: [Vec<Rc<[u8]>>; 6],
     places: HashMap<Signature, usize>,
 }
 
+fn group(shape: Shape, accepted: bool) -> usize {
+    2 * shape as usize + usize::from(accepted)
+}
+
 impl Pool {
-    /// The seeds stay for good.
+    /// The seeds stand with the accepted sheets, and stay for good.
     pub fn new(seeds: &[&[u8]]) -> Pool {
-        Pool { groups: vec![seeds.iter().map(|&seed| seed.into()).collect()], places: HashMap::new() }
+        let mut groups: [Vec<Rc<[u8]>>; 6] = Default::default();
+        groups[group(Shape::Sheet, true)] = seeds.iter().map(|&seed| seed.into()).collect();
+        Pool { groups, places: HashMap::new() }
     }
 
     /// An input that was made of one in the pool.
@@ -31,21 +46,17 @@ impl Pool {
         input.into()
     }
 
-    /// An input of any group, as often of a small as of a large one. A group that is still empty is passed over.
+    /// An input of any group, of each as often, however many there are in it.
     fn drawn(&self, lot: &mut Lot) -> &[u8] {
-        loop {
-            let group = &self.groups[lot.below(self.groups.len() as u64) as usize];
-            if !group.is_empty() {
-                return &group[lot.below(group.len() as u64) as usize];
-            }
-        }
+        let shape = lot.pick(&[Shape::Sheet, Shape::Line, Shape::Station]);
+        let drawn = &self.groups[group(shape, lot.one_in(2))];
+        let drawn = if drawn.is_empty() { &self.groups[group(Shape::Sheet, true)] } else { drawn };
+        &drawn[lot.below(drawn.len() as u64) as usize]
     }
 
     /// Keeps an input that made this signature, if none did or only longer ones.
-    pub fn keep(&mut self, signature: Signature, input: &Rc<[u8]>) {
-        let group = signature.0 + 1;
-        self.groups.resize(self.groups.len().max(group + 1), Vec::new());
-        let group = &mut self.groups[group];
+    pub fn keep(&mut self, shape: Shape, signature: Signature, input: &Rc<[u8]>) {
+        let group = &mut self.groups[group(shape, signature.1 == 0)];
         match self.places.entry(signature) {
             Entry::Vacant(place) => {
                 place.insert(group.len());
@@ -75,28 +86,27 @@ impl Pool {
 mod tests {
     use super::*;
 
-    fn signature(call: usize, feature: u8) -> Signature {
-        (call, 0, [feature, 0, 0, 0, 0, 0, 0, 0])
+    fn signature(feature: u8) -> Signature {
+        (0, 0, [feature, 0, 0, 0, 0, 0, 0, 0])
     }
 
     #[test]
     fn the_shortest_of_a_signature() {
         let mut pool = Pool::new(&[b"seed"]);
-        pool.keep(signature(1, 1), &(*b"longer").into());
-        pool.keep(signature(1, 1), &(*b"than").into());
-        pool.keep(signature(1, 1), &(*b"other").into());
-        pool.keep(signature(1, 2), &(*b"other").into());
-        let kept: Vec<Vec<&[u8]>> =
-            pool.groups.iter().map(|group| group.iter().map(|input| &**input).collect()).collect();
-        assert_eq!(kept, [vec![&b"seed"[..]], vec![], vec![b"than", b"other"]]);
+        pool.keep(Shape::Line, signature(1), &(*b"longer").into());
+        pool.keep(Shape::Line, signature(1), &(*b"than").into());
+        pool.keep(Shape::Line, signature(1), &(*b"other").into());
+        pool.keep(Shape::Station, signature(2), &(*b"other").into());
+        let kept: Vec<&[u8]> = pool.groups.iter().flatten().map(|input| &**input).collect();
+        assert_eq!(kept, [&b"seed"[..], b"than", b"other"]);
         assert_eq!((pool.signatures(), pool.bytes()), (2, 13));
     }
 
     #[test]
     fn every_input_is_drawn() {
         let mut pool = Pool::new(&[b"a"]);
-        pool.keep(signature(4, 1), &(*b"b").into());
-        pool.keep(signature(4, 2), &(*b"c").into());
+        pool.keep(Shape::Sheet, signature(1), &(*b"b").into());
+        pool.keep(Shape::Station, signature(2), &(*b"c").into());
         let mut lot = Lot(1);
         let drawn: Vec<u8> = (0..60).map(|_| pool.drawn(&mut lot)[0]).collect();
         assert!(b"abc".iter().all(|input| drawn.contains(input)));

@@ -6,6 +6,7 @@ use std::process::{Command, Output, Stdio};
 
 use super::calls::{sheet, Call, Tried};
 use super::features::features;
+use super::pool::Shape;
 use crate::compare::input::Told;
 use crate::compare::report::Compared;
 use crate::line::Cause;
@@ -22,7 +23,7 @@ pub fn agree(program: &Path) -> Result<Call, String> {
     }
     let program: PathBuf = program.into();
     let give = move |lot: &mut Lot, input: &[u8]| compare(&program, &sheet(lot, input));
-    Ok(Call::new("agree", 64, &NUMBERS, give))
+    Ok(Call::new("agree", Shape::Sheet, 64, &NUMBERS, give))
 }
 
 fn compare(program: &Path, sheet: &[u8]) -> Tried {
