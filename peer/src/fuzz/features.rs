@@ -17,29 +17,32 @@ pub fn bits(number: usize) -> u8 {
     (usize::BITS - number.leading_zeros()) as u8
 }
 
-/// Of a sheet: its line, how far its chain goes, how many stations are marked.
+/// Of a sheet: its line, how far its chain goes, which ballots it tells, how many stations are marked.
 pub fn of_sheet(sheet: &[u8]) -> Features {
     let Ok(header) = sheet::header(sheet) else { return features(&[bits(sheet.len())]) };
     let Header { n, t, marks, .. } = header;
     if header.judge().is_err() {
         return features(&[0, bits(n.into())]);
     }
-    let walked = bits(walked(sheet));
-    features(&[0, bits(n.into()), bits(t.into()), walked, bits(marks.count() as usize)])
+    let ballots = chained(sheet);
+    let kinds = ballots.iter().fold(0, |kinds, ballot| kinds | 1 << (*ballot).min(3));
+    let walked = bits(ballots.len());
+    features(&[0, bits(n.into()), bits(t.into()), walked, kinds, bits(marks.count() as usize)])
 }
 
-/// How many records a chain reaches until it ends, leaves the sheet or comes back.
-fn walked(sheet: &[u8]) -> usize {
+/// The ballots of the records that a chain reaches until it ends, leaves the sheet or comes back.
+fn chained(sheet: &[u8]) -> Vec<u8> {
     let k = (sheet.len() - HEADER_LEN) / RECORD_LEN;
     let next = |at: usize| usize::from(u16::from_le_bytes([sheet[at], sheet[at + 1]]));
     let mut reached = vec![false; k + 1];
-    let (mut index, mut many) = (next(6), 0);
+    let (mut index, mut ballots) = (next(6), Vec::new());
     while (1..=k).contains(&index) && !reached[index] {
         reached[index] = true;
-        many += 1;
-        index = next(HEADER_LEN + RECORD_LEN * (index - 1) + 4);
+        let at = HEADER_LEN + RECORD_LEN * (index - 1);
+        ballots.push(sheet[at + 3]);
+        index = next(at + 4);
     }
-    many
+    ballots
 }
 
 /// Of an accepted run or exchange: its line, f beside the thresholds, which outcomes came.
@@ -90,14 +93,15 @@ mod tests {
     fn how_far_a_chain_goes() {
         let sheet = |first: u8, nexts: &[u8]| {
             let mut sheet = vec![4, 1, 1, 1, 1, 0, first, 0, 8, 0, 0, 0];
-            nexts.iter().for_each(|&next| sheet.extend([1, 4, 1, 1, next, 0, 0, 0]));
+            let records = nexts.iter().zip(10..);
+            records.for_each(|(&next, ballot)| sheet.extend([1, 4, 1, ballot, next, 0, 0, 0]));
             sheet
         };
-        assert_eq!(walked(&sheet(0, &[0])), 0);
-        assert_eq!(walked(&sheet(1, &[])), 0);
-        assert_eq!(walked(&sheet(2, &[0, 1])), 2);
-        assert_eq!(walked(&sheet(1, &[2, 3, 1])), 3);
-        assert_eq!(walked(&sheet(1, &[2, 9, 0])), 2);
+        assert_eq!(chained(&sheet(0, &[0])), []);
+        assert_eq!(chained(&sheet(1, &[])), []);
+        assert_eq!(chained(&sheet(2, &[0, 1])), [11, 10]);
+        assert_eq!(chained(&sheet(1, &[2, 3, 1])), [10, 11, 12]);
+        assert_eq!(chained(&sheet(1, &[2, 9, 0])), [10, 11]);
     }
 
     #[test]

@@ -143,7 +143,8 @@ fn link(lot: &mut Lot, input: &mut Vec<u8>) {
         None => vec![1; RECORD_LEN],
     };
     if !lot.one_in(4) {
-        record[lot.below(4) as usize] = 1 + lot.below(u64::from(input[0].max(1))) as u8;
+        let (station, edge) = (1 + lot.below(u64::from(input[0].max(1))) as u8, lot.pick(&EDGES));
+        record[lot.below(4) as usize] = lot.pick(&[station, edge]);
     }
     let at = place_of_next(lot.below(k as u64 + 1) as usize);
     record[4..6].copy_from_slice(&input[at..at + 2]);
