@@ -93,6 +93,7 @@ mod tests {
         lending.theirs.0[AROUND - 1] ^= 1;
         assert!(difference(0, 0, &[&lending]).unwrap().starts_with("the log byte -1: peer "));
     }
+
     #[test]
     fn bytes_that_a_buffer_holds() {
         let mut lending = Lending::holding(&mut Lot(1), "the station", &[4, 1, 1]);

@@ -1,7 +1,7 @@
 //! What is told coarsely of an input and its answer, so that a new kind is noticed.
 
 use super::pool::Features;
-use crate::line::{Header, Line, Marks, Part};
+use crate::line::{Header, Line, Marks, Part, SILENCE};
 use crate::sheet::{self, HEADER_LEN, RECORD_LEN};
 use crate::station::{Answer, Station};
 
@@ -25,7 +25,8 @@ pub fn of_sheet(sheet: &[u8]) -> Features {
         return features(&[0, bits(n.into())]);
     }
     let ballots = chained(sheet);
-    let kinds = ballots.iter().fold(0, |kinds, ballot| kinds | 1 << (*ballot).min(3));
+    let kind = |ballot: u8| 1 << if ballot == SILENCE { 4 } else { ballot.min(3) };
+    let kinds = ballots.iter().fold(0, |kinds, &ballot| kinds | kind(ballot));
     let walked = bits(ballots.len());
     features(&[0, bits(n.into()), bits(t.into()), walked, kinds, bits(marks.count() as usize)])
 }

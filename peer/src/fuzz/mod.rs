@@ -92,8 +92,8 @@ impl Fuzz {
     /// One input, given to the calls.
     fn turn(&mut self) {
         let mut lot = Lot(Lot(self.seed).word().wrapping_add(self.turns));
+        let input = self.pool.input(self.turns, &mut lot);
         self.turns += 1;
-        let input = self.pool.mutated(&mut lot);
         for place in 0..self.calls.len() {
             if lot.one_in(self.calls[place].one_in) {
                 self.give(place, &mut lot, &input);

@@ -54,23 +54,19 @@ fn at_one(lot: &mut Lot, input: &mut [u8], other: impl Fn(&mut Lot, u8) -> u8) {
 fn len_within(lot: &mut Lot, most: usize) -> usize {
     let any = lot.below(most as u64 + 1) as usize;
     if lot.one_in(2) && any >= HEADER_LEN {
-        any - (any - HEADER_LEN) % RECORD_LEN
+        place_of(1 + records_in(any))
     } else {
         any
     }
 }
 
-/// Some bytes of the input: a few, whole records, or any number.
+/// Some bytes of the input: a few, as many as some records have, or any number.
 fn stretch(lot: &mut Lot, len: usize) -> Range<usize> {
-    let any = lot.below(len as u64 + 1) as usize;
-    if lot.one_in(2) && any >= HEADER_LEN {
-        let start = len_within(lot, any).max(HEADER_LEN);
-        let start = start - (start - HEADER_LEN) % RECORD_LEN;
-        return start..(start + RECORD_LEN * lot.pick(&[1, 1, 2, 16])).min(len);
-    }
+    let start = len_within(lot, len);
     let few = 1 + lot.below(8) as usize;
-    let rest = lot.below((len - any) as u64 + 1) as usize;
-    any..(any + lot.pick(&[few, few, rest])).min(len)
+    let rest = lot.below((len - start) as u64 + 1) as usize;
+    let many = lot.pick(&[few, few, RECORD_LEN, RECORD_LEN, 16 * RECORD_LEN, rest]);
+    start..(start + many).min(len)
 }
 
 fn insert(lot: &mut Lot, input: &mut Vec<u8>) {
@@ -100,9 +96,9 @@ fn splice(lot: &mut Lot, input: &mut Vec<u8>, other: &[u8]) {
     input.extend(&other[from..]);
 }
 
-/// How many whole records stand behind the header.
-fn records(input: &[u8]) -> usize {
-    input.len().saturating_sub(HEADER_LEN) / RECORD_LEN
+/// How many whole records a sheet of this length has.
+fn records_in(len: usize) -> usize {
+    len.saturating_sub(HEADER_LEN) / RECORD_LEN
 }
 
 /// Where a record stands.
@@ -121,7 +117,7 @@ fn place_of_next(record: usize) -> usize {
 
 /// Changes where the chain begins, or where it goes on from a record.
 fn index(lot: &mut Lot, input: &mut [u8]) {
-    let k = records(input);
+    let k = records_in(input.len());
     let record = lot.below(k as u64 + 1) as usize;
     let at = place_of_next(record);
     let any = lot.below(k as u64 + 1) as usize;
@@ -133,7 +129,7 @@ fn index(lot: &mut Lot, input: &mut [u8]) {
 
 /// Chains one record more behind a record or the header: a copy of one, mostly with another number in it.
 fn link(lot: &mut Lot, input: &mut Vec<u8>) {
-    let k = records(input);
+    let k = records_in(input.len());
     if input.len() < HEADER_LEN || input.len() != place_of(k + 1) {
         return;
     }
@@ -200,6 +196,7 @@ mod tests {
         }
         assert_eq!(changed, [true; 44]);
     }
+
     #[test]
     fn a_record_more() {
         let mut input = include_bytes!("../../../examples/a.sheet").to_vec();

@@ -23,6 +23,7 @@ pub enum Shape {
 /// The inputs by the shape that they are kept for, the accepted ones apart. One that makes several signatures
 /// stands once for each.
 pub struct Pool {
+    seeds: Vec<Rc<[u8]>>,
     groups: [Vec<Rc<[u8]>>; 6],
     places: HashMap<Signature, usize>,
 }
@@ -34,13 +35,22 @@ fn group(shape: Shape, accepted: bool) -> usize {
 impl Pool {
     /// The seeds stand with the accepted sheets, and stay for good.
     pub fn new(seeds: &[&[u8]]) -> Pool {
+        let seeds: Vec<Rc<[u8]>> = seeds.iter().map(|&seed| seed.into()).collect();
         let mut groups: [Vec<Rc<[u8]>>; 6] = Default::default();
-        groups[group(Shape::Sheet, true)] = seeds.iter().map(|&seed| seed.into()).collect();
-        Pool { groups, places: HashMap::new() }
+        groups[group(Shape::Sheet, true)] = seeds.clone();
+        Pool { seeds, groups, places: HashMap::new() }
+    }
+
+    /// The input of a turn: the seeds as they are come first.
+    pub fn input(&self, turn: u64, lot: &mut Lot) -> Rc<[u8]> {
+        match self.seeds.get(turn as usize) {
+            Some(seed) => seed.clone(),
+            None => self.mutated(lot),
+        }
     }
 
     /// An input that was made of one in the pool.
-    pub fn mutated(&self, lot: &mut Lot) -> Rc<[u8]> {
+    fn mutated(&self, lot: &mut Lot) -> Rc<[u8]> {
         let (mut input, other) = (self.drawn(lot).to_vec(), self.drawn(lot));
         mutate(lot, &mut input, other);
         input.into()
@@ -110,5 +120,12 @@ mod tests {
         let mut lot = Lot(1);
         let drawn: Vec<u8> = (0..60).map(|_| pool.drawn(&mut lot)[0]).collect();
         assert!(b"abc".iter().all(|input| drawn.contains(input)));
+    }
+
+    #[test]
+    fn seeds_come_first() {
+        let pool = Pool::new(&[b"a", b"b"]);
+        assert_eq!([0, 1].map(|turn| pool.input(turn, &mut Lot(1))), [(*b"a").into(), (*b"b").into()]);
+        assert!((0..8).any(|seed| pool.input(2, &mut Lot(seed)).len() != 1));
     }
 }
