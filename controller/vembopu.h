@@ -17,11 +17,11 @@
  *
  * Any content may be handed in: what is not allowed is refused, by number, and
  * nothing else happens. A call reads nothing but its arguments, for a row the
- * row_len bytes at row; it calls nothing, keeps nothing, and the same arguments
- * always give the same answer. vembopu_advance_lent alone writes, and only the
- * nine bytes of the station that is lent to it; the other four calls write
- * nothing. So any number of stations may run in one process, and in any
- * threads.
+ * row_len bytes at row, for a lent station its nine bytes; it calls nothing,
+ * keeps nothing, and the same arguments always give the same answer.
+ * vembopu_advance_lent alone writes, and only those nine bytes; the other four
+ * calls write nothing. So any number of stations may run in one process, and
+ * in any threads.
  *
  * The four calls on numbers are in libcontroller.a, vembopu_advance_lent is in
  * liblent.a.
@@ -135,9 +135,9 @@ struct vembopu_station {
  * vembopu_advance on a station that the caller keeps: the station takes the
  * row that it received in the current round, where it stands.
  *
- * s        points to nine bytes that may be written, which the row doesn't
- *          overlap and nobody else reads or writes during the call. Any bytes
- *          may stand there.
+ * s        points to nine writable bytes, in a refused call too, which the row
+ *          doesn't overlap and nobody else reads or writes during the call.
+ *          Any bytes may stand there.
  * row      and row_len as for vembopu_advance.
  *
  * Answers 0 if the row is taken: round, value, z and grade at s are then those
