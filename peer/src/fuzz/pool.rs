@@ -12,6 +12,9 @@ pub type Features = [u8; 8];
 /// An answer told coarsely: the call's place in the list, its number, and the features.
 pub type Signature = (usize, u8, Features);
 
+/// No more bytes are kept, an input that stands several times counted as often.
+const MOST_BYTES: usize = 128 << 20;
+
 /// What an input is to a call.
 #[derive(Clone, Copy)]
 pub enum Shape {
@@ -26,6 +29,8 @@ pub struct Pool {
     seeds: Vec<Rc<[u8]>>,
     groups: [Vec<Rc<[u8]>>; 6],
     places: HashMap<Signature, usize>,
+    bytes: usize,
+    most_bytes: usize,
 }
 
 fn group(shape: Shape, accepted: bool) -> usize {
@@ -36,9 +41,10 @@ impl Pool {
     /// The seeds stand with the accepted sheets, and stay for good.
     pub fn new(seeds: &[&[u8]]) -> Pool {
         let seeds: Vec<Rc<[u8]>> = seeds.iter().map(|&seed| seed.into()).collect();
+        let bytes = seeds.iter().map(|seed| seed.len()).sum();
         let mut groups: [Vec<Rc<[u8]>>; 6] = Default::default();
         groups[group(Shape::Sheet, true)] = seeds.clone();
-        Pool { seeds, groups, places: HashMap::new() }
+        Pool { seeds, groups, places: HashMap::new(), bytes, most_bytes: MOST_BYTES }
     }
 
     /// The input of a turn: the seeds as they are come first.
@@ -64,31 +70,34 @@ impl Pool {
         &drawn[lot.below(drawn.len() as u64) as usize]
     }
 
-    /// Keeps an input that made this signature, if none did or only longer ones.
+    /// Keeps an input that made this signature, if none did and there is room, or only longer ones did.
     pub fn keep(&mut self, shape: Shape, signature: Signature, input: &Rc<[u8]>) {
         let group = &mut self.groups[group(shape, signature.1 == 0)];
         match self.places.entry(signature) {
-            Entry::Vacant(place) => {
+            Entry::Vacant(place) if self.bytes + input.len() <= self.most_bytes => {
                 place.insert(group.len());
                 group.push(input.clone());
+                self.bytes += input.len();
             }
+            Entry::Vacant(_) => {}
             Entry::Occupied(place) => {
                 let kept = &mut group[*place.get()];
                 if input.len() < kept.len() {
+                    self.bytes -= kept.len() - input.len();
                     *kept = input.clone();
                 }
             }
         }
     }
 
-    /// How many signatures came.
+    /// How many signatures have an input.
     pub fn signatures(&self) -> usize {
         self.places.len()
     }
 
     /// The bytes of all inputs, one that stands several times counted as often.
     pub fn bytes(&self) -> usize {
-        self.groups.iter().flatten().map(|input| input.len()).sum()
+        self.bytes
     }
 }
 
@@ -110,6 +119,18 @@ mod tests {
         let kept: Vec<&[u8]> = pool.groups.iter().flatten().map(|input| &**input).collect();
         assert_eq!(kept, [&b"seed"[..], b"than", b"other"]);
         assert_eq!((pool.signatures(), pool.bytes()), (2, 13));
+    }
+
+    #[test]
+    fn no_more_than_there_is_room_for() {
+        let mut pool = Pool { most_bytes: 9, ..Pool::new(&[b"seed"]) };
+        pool.keep(Shape::Sheet, signature(1), &(*b"other").into());
+        pool.keep(Shape::Sheet, signature(2), &(*b"a").into());
+        assert_eq!((pool.signatures(), pool.bytes()), (1, 9));
+        pool.keep(Shape::Sheet, signature(1), &(*b"less").into());
+        pool.keep(Shape::Sheet, signature(2), &(*b"a").into());
+        assert_eq!((pool.signatures(), pool.bytes()), (2, 9));
+        assert_eq!(pool.groups.iter().flatten().map(|input| input.len()).sum::<usize>(), 9);
     }
 
     #[test]
