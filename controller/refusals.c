@@ -1,7 +1,8 @@
 /*
  * Every refusal of the station's calls through C, alone and in pairs; calls at
  * the edges and by lot against document 01 written once more (model.h); rows
- * between pages that can't be touched.
+ * between pages that can't be touched. Every row is given to the lent station
+ * too, which stands at the edges of such a page.
  */
 #define _DEFAULT_SOURCE
 #include "check.h"
@@ -10,11 +11,59 @@
 
 #include <string.h>
 
-enum { OPEN = 1, BALLOT = 2, ADVANCE = 4, RESULT = 8, ALL = 15 };
-enum { CALLS = 4, LONGEST_ROW = 300, BLOCK = 10000, BLOCKS = 10, NUMBERS = 14 };
+enum { OPEN = 1, BALLOT = 2, ADVANCE = 4, LENT = 8, RESULT = 16 };
+enum { TAKES_ROW = ADVANCE | LENT, HAS_STATE = BALLOT | TAKES_ROW | RESULT, ALL = OPEN | HAS_STATE };
+enum { CALLS = 5, LONGEST_ROW = 300, BLOCK = 10000, BLOCKS = 10, NUMBERS = 14 };
 
-static const char *const call_name[CALLS] = {"open", "ballot", "advance", "result"};
+static const char *const call_name[CALLS] = {"open", "ballot", "advance", "advance_lent", "result"};
 static uint8_t some_row[LONGEST_ROW];
+
+/* ---- The lent station ---- */
+
+/* What the lent call is said to answer if it writes what it must not. */
+enum { NUMBERS_WRITTEN = 14, WRITTEN_BESIDE = 15, OTHER_AT_END = 16 };
+
+static struct guarded lent_page;
+static uint8_t *untouched; /* a copy of the page */
+
+static void make_lent_page(void)
+{
+    lent_page = guarded_page();
+    untouched = malloc(lent_page.size);
+    if (untouched == NULL)
+        exit(2);
+    for (size_t i = 0; i < lent_page.size; i++)
+        untouched[i] = (uint8_t)draw(256);
+    memcpy(lent_page.page, untouched, lent_page.size);
+}
+
+/* The lent call as vembopu_advance answers, with the station at a place of the
+   page. The page's other bytes must stay. */
+static uint64_t lent_at(size_t place, const struct call *c)
+{
+    struct vembopu_station before = vembopu_station_of(
+        (uint8_t)c->n, (uint8_t)c->t, (uint8_t)c->T, (uint8_t)c->sender, (uint8_t)c->own, state_bits(c));
+    struct vembopu_station after;
+    uint8_t *s = lent_page.page + place;
+    memcpy(s, &before, sizeof before);
+    int number = vembopu_advance_lent((struct vembopu_station *)s, c->row, c->row_len);
+    memcpy(&after, s, sizeof after);
+    memcpy(s, untouched + place, sizeof after);
+    if (memcmp(lent_page.page, untouched, lent_page.size) != 0) {
+        memcpy(lent_page.page, untouched, lent_page.size);
+        number = WRITTEN_BESIDE;
+    } else if (memcmp(&before, &after, offsetof(struct vembopu_station, round)) != 0)
+        number = NUMBERS_WRITTEN;
+    return answer(number, vembopu_state_of(&after));
+}
+
+/* The station at the page's start, then at its end. */
+static uint64_t lent(const struct call *c)
+{
+    uint64_t at_start = lent_at(0, c);
+    uint64_t at_end = lent_at(lent_page.size - sizeof(struct vembopu_station), c);
+    return at_start == at_end ? at_start : answer(OTHER_AT_END, 0);
+}
 
 /* ---- The calls, by their bit ---- */
 
@@ -29,6 +78,8 @@ static uint64_t library(int which, const struct call *c)
         return vembopu_ballot(n, t, T, sender, own, state_bits(c));
     case ADVANCE:
         return vembopu_advance(n, t, T, sender, own, state_bits(c), c->row, c->row_len);
+    case LENT:
+        return lent(c);
     default:
         return vembopu_result(n, t, T, sender, own, state_bits(c));
     }
@@ -42,6 +93,7 @@ static uint64_t model(int which, const struct call *c)
     case BALLOT:
         return model_ballot(c);
     case ADVANCE:
+    case LENT:
         return model_advance(c);
     default:
         return model_result(c);
@@ -131,27 +183,27 @@ static const struct fault faults[] = {
     {"own 255", 4, ALL, own_255},
     {"value 2", 5, OPEN, value_2},
     {"value 255", 5, OPEN, value_255},
-    {"round 0", 7, BALLOT | ADVANCE | RESULT, round_0},
-    {"round R+2", 7, BALLOT | ADVANCE | RESULT, round_above},
-    {"round 255", 7, BALLOT | ADVANCE | RESULT, round_255},
-    {"state value 2", 7, BALLOT | ADVANCE | RESULT, x_2},
-    {"state value 255", 7, BALLOT | ADVANCE | RESULT, x_255},
-    {"z 3", 7, BALLOT | ADVANCE | RESULT, z_3},
-    {"z 255", 7, BALLOT | ADVANCE | RESULT, z_255},
-    {"grade 3", 7, BALLOT | ADVANCE | RESULT, grade_3},
-    {"grade 255", 7, BALLOT | ADVANCE | RESULT, grade_255},
-    {"done", 7, BALLOT | ADVANCE, is_done},
-    {"row of n-1", 8, ADVANCE, row_short},
-    {"row of n+1", 8, ADVANCE, row_long},
-    {"row NULL", 8, ADVANCE, row_null},
+    {"round 0", 7, HAS_STATE, round_0},
+    {"round R+2", 7, HAS_STATE, round_above},
+    {"round 255", 7, HAS_STATE, round_255},
+    {"state value 2", 7, HAS_STATE, x_2},
+    {"state value 255", 7, HAS_STATE, x_255},
+    {"z 3", 7, HAS_STATE, z_3},
+    {"z 255", 7, HAS_STATE, z_255},
+    {"grade 3", 7, HAS_STATE, grade_3},
+    {"grade 255", 7, HAS_STATE, grade_255},
+    {"done", 7, BALLOT | TAKES_ROW, is_done},
+    {"row of n-1", 8, TAKES_ROW, row_short},
+    {"row of n+1", 8, TAKES_ROW, row_long},
+    {"row NULL", 8, TAKES_ROW, row_null},
 };
 
 enum { FAULTS = sizeof faults / sizeof faults[0] };
 
-/* A refused call gives nothing, advance the state that it was handed. */
+/* A refused call gives nothing; one that takes a row, the state that it was handed. */
 static void refused(int call, const struct call *c, int number, const char *one, const char *two)
 {
-    uint32_t left = 1 << call == ADVANCE ? state_bits(c) : 0;
+    uint32_t left = 1 << call & TAKES_ROW ? state_bits(c) : 0;
     uint64_t got = library(1 << call, c);
     check(got == answer(number, left), "%s, n %d, %s, %s: %llx, not refusal %d", call_name[call],
           c->n, one, two, (unsigned long long)got, number);
@@ -315,7 +367,8 @@ static void block(void)
 /* Each number that a call can give was met, and no other. */
 static void all_met(void)
 {
-    static const char *const can[CALLS] = {"0 2 3 4 5", "0 2 3 4 7", "0 2 3 4 7 8", "0 2 3 4 7"};
+    static const char *const can[CALLS] = {"0 2 3 4 5", "0 2 3 4 7", "0 2 3 4 7 8", "0 2 3 4 7 8",
+                                             "0 2 3 4 7"};
     for (int call = 0; call < CALLS; call++) {
         char line[256] = "", list[64] = "";
         for (int k = 0; k < NUMBERS; k++) {
@@ -349,47 +402,72 @@ static void guarded_rows(int n, struct guarded g)
     for (int round = 1; round <= rounds(c.t); round++) {
         c.round = round;
         c.grade = round % 2 * 2;
-        c.row = g.page;
-        differ += !agrees(2, &c);
-        c.row = g.page + g.size - n;
-        differ += !agrees(2, &c);
+        for (int call = 2; call <= 3; call++) {
+            c.row = g.page;
+            differ += !agrees(call, &c);
+            c.row = g.page + g.size - n;
+            differ += !agrees(call, &c);
+        }
     }
     check(differ == 0, "rows of %d at the edges of a page: %lu differ", n, differ);
 }
 
 /* ---- A station with refused rows between ---- */
 
-static uint32_t try_bad_rows(uint8_t n, uint8_t t, uint32_t state, uint32_t number)
+/* Rows of a wrong length, to a station and to the same one lent. */
+static void try_bad_rows(struct vembopu_station *s, uint8_t number)
 {
-    const size_t length[] = {0, (size_t)n - 1, (size_t)n + 1};
+    const struct vembopu_station before = *s;
+    const size_t length[] = {0, (size_t)s->n - 1, (size_t)s->n + 1};
+    uint32_t state = vembopu_state_of(s);
     for (int i = 0; i < 3; i++) {
-        uint64_t got = vembopu_advance(n, t, t, 1, n, state, i == 0 ? NULL : some_row, length[i]);
-        check(vembopu_refusal(got) == number && vembopu_state(got) == state,
-              "n %d, a row of %lu: %llx", n, (unsigned long)length[i], (unsigned long long)got);
-        state = vembopu_state(got);
+        const uint8_t *row = i == 0 ? NULL : some_row;
+        uint64_t got = vembopu_advance(s->n, s->t, s->T, s->sender, s->own, state, row, length[i]);
+        check(got == answer(number, state), "n %d, a row of %lu: %llx", s->n, (unsigned long)length[i],
+              (unsigned long long)got);
+        int lent_number = vembopu_advance_lent(s, row, length[i]);
+        check(lent_number == number && memcmp(s, &before, sizeof before) == 0,
+              "n %d, a row of %lu lent: %d, state %08lx", s->n, (unsigned long)length[i], lent_number,
+              (unsigned long)vembopu_state_of(s));
     }
-    return state;
+}
+
+static uint64_t result_of(const struct vembopu_station *s)
+{
+    return vembopu_result(s->n, s->t, s->T, s->sender, s->own, vembopu_state_of(s));
+}
+
+/* A row, to a station and to the same one lent: the first one's answer. */
+static uint64_t take_both(struct vembopu_station *s)
+{
+    uint64_t next = vembopu_advance(s->n, s->t, s->T, s->sender, s->own, vembopu_state_of(s), some_row, s->n);
+    int number = vembopu_advance_lent(s, some_row, s->n);
+    check(answer(number, vembopu_state_of(s)) == next, "n %d: %d and state %08lx lent, not %llx", s->n,
+          number, (unsigned long)vembopu_state_of(s), (unsigned long long)next);
+    return next;
 }
 
 static void whole_station(uint8_t n)
 {
     uint8_t t = (uint8_t)((n - 1) / 3);
     int taken = 0, R = rounds(t);
-    uint32_t state = vembopu_state(vembopu_open(n, t, t, 1, n, 1));
-    uint64_t result = vembopu_result(n, t, t, 1, n, state);
+    uint32_t opened = vembopu_state(vembopu_open(n, t, t, 1, n, 1));
+    struct vembopu_station s = vembopu_station_of(n, t, t, 1, n, opened);
+    uint64_t result = result_of(&s);
     while (vembopu_running(result) && taken <= R) {
         check(vembopu_round(result) == taken + 1, "n %d: round %d", n, vembopu_round(result));
-        state = try_bad_rows(n, t, state, 8);
-        state = vembopu_state(vembopu_advance(n, t, t, 1, n, state, some_row, n));
+        try_bad_rows(&s, 8);
+        take_both(&s);
         taken++;
-        result = vembopu_result(n, t, t, 1, n, state);
+        result = result_of(&s);
     }
+    uint32_t state = vembopu_state_of(&s);
     check(vembopu_done(result) && taken == R, "n %d: done after %d rows, not %d", n, taken, R);
     check(vembopu_refusal(vembopu_ballot(n, t, t, 1, n, state)) == 7, "n %d: a done station's ballot", n);
-    uint64_t more = vembopu_advance(n, t, t, 1, n, state, some_row, n);
+    uint64_t more = take_both(&s);
     check(more == answer(7, state), "n %d: a done station's row: %llx", n, (unsigned long long)more);
-    try_bad_rows(n, t, state, 7);
-    check(vembopu_result(n, t, t, 1, n, state) == result, "n %d: another result", n);
+    try_bad_rows(&s, 7);
+    check(result_of(&s) == result, "n %d: another result", n);
 }
 
 /* ---- */
@@ -419,6 +497,7 @@ int main(void)
 {
     for (int i = 0; i < LONGEST_ROW; i++)
         some_row[i] = (uint8_t)draw(3);
+    make_lent_page();
     part("causes alone and in pairs", all_faults);
     part("thresholds of cases E, F and H", cases);
     part("calls at the edges", edges);

@@ -17,9 +17,14 @@
  *
  * Any content may be handed in: what is not allowed is refused, by number, and
  * nothing else happens. A call reads nothing but its arguments, for a row the
- * row_len bytes at row; it writes nothing, calls nothing, keeps nothing, and
- * the same arguments always give the same answer. So any number of stations
- * may run in one process, and in any threads.
+ * row_len bytes at row, for a lent station its nine bytes; it calls nothing,
+ * keeps nothing, and the same arguments always give the same answer.
+ * vembopu_advance_lent alone writes, and only those nine bytes; the other four
+ * calls write nothing. So any number of stations may run in one process, and
+ * in any threads.
+ *
+ * The four calls on numbers are in libcontroller.a, vembopu_advance_lent is in
+ * liblent.a.
  */
 #ifndef VEMBOPU_H
 #define VEMBOPU_H
@@ -50,9 +55,9 @@ enum {
 };
 
 /*
- * Every call answers with 64 bits: the refusal number, 0 if accepted, in the
- * upper 32; what the call gives in the lower 32. Take it apart with the
- * helpers at the end of this file.
+ * Every call on numbers answers with 64 bits: the refusal number, 0 if
+ * accepted, in the upper 32; what the call gives in the lower 32. Take it apart
+ * with the helpers at the end of this file.
  */
 
 /*
@@ -114,9 +119,58 @@ uint64_t vembopu_advance(uint8_t n, uint8_t t, uint8_t T, uint8_t sender,
 uint64_t vembopu_result(uint8_t n, uint8_t t, uint8_t T, uint8_t sender,
                         uint8_t own, uint32_t state);
 
+/* ---- The station lent ---- */
+
+/*
+ * A station in nine bytes: the five numbers and the state, each byte of it by
+ * its name. vembopu_station_of makes it from the numbers, vembopu_state_of
+ * gives its state for ballot and result.
+ */
+struct vembopu_station {
+    uint8_t n, t, T, sender, own;
+    uint8_t round, value, z, grade;
+};
+
+/*
+ * vembopu_advance on a station that the caller keeps: the station takes the
+ * row that it received in the current round, where it stands.
+ *
+ * s        points to nine writable bytes, in a refused call too, which the row
+ *          doesn't overlap and nobody else reads or writes during the call.
+ *          Any bytes may stand there.
+ * row      and row_len as for vembopu_advance.
+ *
+ * Answers 0 if the row is taken: round, value, z and grade at s are then those
+ * after the row, the five numbers as they were.
+ * Refused: 2, 3, 4, 7, 8; all nine bytes are then as they were, so that another
+ * row may be tried.
+ */
+uint8_t vembopu_advance_lent(struct vembopu_station *s, const uint8_t *row,
+                             size_t row_len);
+
+/* The station with these numbers and this state, that of an accepted open. */
+static inline struct vembopu_station
+vembopu_station_of(uint8_t n, uint8_t t, uint8_t T, uint8_t sender, uint8_t own,
+                   uint32_t state)
+{
+    struct vembopu_station s = {n, t, T, sender, own, 0, 0, 0, 0};
+    s.round = (uint8_t)(state & 0xffu);
+    s.value = (uint8_t)((state >> 8) & 0xffu);
+    s.z = (uint8_t)((state >> 16) & 0xffu);
+    s.grade = (uint8_t)((state >> 24) & 0xffu);
+    return s;
+}
+
+/* The station's state, for a call on numbers. */
+static inline uint32_t vembopu_state_of(const struct vembopu_station *s)
+{
+    return (uint32_t)s->round | (uint32_t)s->value << 8 | (uint32_t)s->z << 16 |
+           (uint32_t)s->grade << 24;
+}
+
 /* ---- Taking an answer apart ---- */
 
-/* Of any call: the refusal number, 0 if accepted. Ask this first. */
+/* Of any call on numbers: the refusal number, 0 if accepted. Ask this first. */
 static inline uint32_t vembopu_refusal(uint64_t answer)
 {
     return (uint32_t)(answer >> 32);

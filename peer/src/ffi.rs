@@ -48,6 +48,7 @@ mod exported {
             row: *const u8,
             row_len: usize,
         ) -> u64;
+        pub fn vembopu_advance_lent(station: *mut u8, row: *const u8, row_len: usize) -> u8;
         pub fn vembopu_result(n: u8, t: u8, upper: u8, sender: u8, own: u8, state: u32) -> u64;
     }
 }
@@ -130,6 +131,12 @@ pub fn advance(station: &Station, row: &[u8]) -> u64 {
     let Station { n, t, upper, sender, own, .. } = *station;
     // SAFETY: the row lives through the call and isn't written.
     unsafe { exported::vembopu_advance(n, t, upper, sender, own, state(station), row.as_ptr(), row.len()) }
+}
+
+/// A lent station, nine bytes, takes a row where it stands: the refusal's number.
+pub fn advance_lent(station: &mut [u8; 9], row: &[u8]) -> u8 {
+    // SAFETY: both live through the call and don't overlap, and only the nine bytes are written.
+    unsafe { exported::vembopu_advance_lent(station.as_mut_ptr(), row.as_ptr(), row.len()) }
 }
 
 /// A station's result: byte 0 is 0 and byte 1 the round, or byte 0 is 1, then value, grade and flag.

@@ -13,6 +13,8 @@ pub mod draw;
 pub mod exchange;
 #[cfg(feature = "verified")]
 pub mod ffi;
+#[cfg(feature = "verified")]
+pub mod fuzz;
 pub mod line;
 pub mod listing;
 pub mod lot;

@@ -19,6 +19,8 @@ A file that isn't named is read from standard input. What is made goes to standa
 
 Built with the feature verified:
        peer compare [SEED] [TURNS]    the verified calls compared with this program's answers
+       peer fuzz [SEED] [TURNS] [AGREE]
+                                      the same on mutated bytes, and the program agree; TURNS may be seconds: 600s
        peer bench                     how long both take";
 
 fn main() -> ExitCode {
@@ -26,6 +28,7 @@ fn main() -> ExitCode {
     let Some((command, rest)) = words.split_first() else { return usage() };
     match command.as_str() {
         "compare" => verified::compare(rest).unwrap_or_else(usage),
+        "fuzz" => verified::fuzz(rest).unwrap_or_else(usage),
         "bench" => verified::bench(rest).unwrap_or_else(usage),
         _ => make(command, rest).unwrap_or_else(usage),
     }
@@ -60,16 +63,45 @@ fn make(command: &str, rest: &[String]) -> Option<ExitCode> {
 mod verified {
     use super::ExitCode;
     use peer::compare::Comparison;
+    use peer::fuzz::{Fuzz, Until};
+    use std::path::Path;
+
+    /// The word at a place, if there is one, of at most so many.
+    fn word(words: &[String], place: usize, most: usize, default: &'static str) -> Option<String> {
+        let word = words.get(place).map_or(default, String::as_str);
+        (words.len() <= most).then(|| word.to_string())
+    }
+
+    fn ended(report: &str, failed: usize) -> ExitCode {
+        print!("{report}");
+        if failed == 0 {
+            ExitCode::SUCCESS
+        } else {
+            ExitCode::FAILURE
+        }
+    }
 
     pub fn compare(words: &[String]) -> Option<ExitCode> {
-        let number = |place: usize, default: u64| words.get(place).map_or(Ok(default), |word| word.parse());
-        let (seed, turns) = (number(0, 1).ok()?, number(1, 10_000).ok()?);
-        if words.len() > 2 {
-            return None;
-        }
+        let seed = word(words, 0, 2, "1")?.parse().ok()?;
+        let turns = word(words, 1, 2, "10000")?.parse().ok()?;
         let comparison = Comparison::run(seed, turns);
-        print!("{}", comparison.report());
-        Some(if comparison.failed() == 0 { ExitCode::SUCCESS } else { ExitCode::FAILURE })
+        Some(ended(&comparison.report(), comparison.failed()))
+    }
+
+    pub fn fuzz(words: &[String]) -> Option<ExitCode> {
+        let seed = word(words, 0, 3, "1")?.parse().ok()?;
+        let until = Until::new(&word(words, 1, 3, "20000")?)?;
+        let agree = word(words, 2, 3, "../target/bin/agree")?;
+        match Fuzz::new(seed, Path::new(&agree)) {
+            Ok(mut fuzz) => {
+                fuzz.run(until);
+                Some(ended(&fuzz.report(), fuzz.failed()))
+            }
+            Err(message) => {
+                eprintln!("peer fuzz: {message}");
+                Some(ExitCode::from(2))
+            }
+        }
     }
 
     pub fn bench(words: &[String]) -> Option<ExitCode> {
@@ -86,11 +118,12 @@ mod verified {
     use super::ExitCode;
 
     pub fn compare(_: &[String]) -> Option<ExitCode> {
-        eprintln!("peer: compare and bench need the feature verified");
+        eprintln!("peer: compare, fuzz and bench need the feature verified");
         Some(ExitCode::from(2))
     }
 
     pub use compare as bench;
+    pub use compare as fuzz;
 }
 
 fn usage() -> ExitCode {

@@ -103,8 +103,9 @@ fn usage() {
 #[cfg(not(feature = "verified"))]
 #[test]
 fn commands_that_are_not_built() {
-    let said = "peer: compare and bench need the feature verified\n".to_string();
+    let said = "peer: compare, fuzz and bench need the feature verified\n".to_string();
     assert_eq!(peer(&["compare", "1", "1"], &[]), (2, vec![], said.clone()));
+    assert_eq!(peer(&["fuzz", "1", "1"], &[]), (2, vec![], said.clone()));
     assert_eq!(peer(&["bench"], &[]), (2, vec![], said));
 }
 
@@ -114,8 +115,35 @@ fn comparing() {
     let (status, printed, said) = peer(&["compare", "7", "3"], &[]);
     assert_eq!((status, said.as_str()), (0, ""));
     let printed = String::from_utf8(printed).unwrap();
-    assert!(printed.starts_with("seed 7, 3 turns; ") && printed.ends_with("\n8 passed, 0 failed\n"));
+    assert!(printed.starts_with("seed 7, 3 turns; ") && printed.ends_with("\n9 passed, 0 failed\n"));
     for words in [&["compare", "x"][..], &["compare", "1", "2", "3"], &["bench", "1"]] {
         assert_eq!(peer(words, &[]).0, 2);
+    }
+}
+
+#[cfg(feature = "verified")]
+#[test]
+fn fuzzing() {
+    let (status, printed, said) = peer(&["fuzz", "7", "300"], &[]);
+    // a slow machine may have said how far it is
+    assert!(status == 0 && !said.contains("to repeat: "));
+    let printed = String::from_utf8(printed).unwrap();
+    assert!(printed.starts_with("seed 7, 300 turns; ") && printed.ends_with("\n9 passed, 0 failed\n"));
+    for words in [&["fuzz", "x"][..], &["fuzz", "1", "2m"], &["fuzz", "1", "1", "a", "b"]] {
+        assert_eq!(peer(words, &[]).0, 2);
+    }
+    let said = "peer fuzz: nowhere isn't there: rt check agree makes it\n".to_string();
+    assert_eq!(peer(&["fuzz", "1", "1", "nowhere"], &[]), (2, vec![], said));
+}
+
+/// A program that prints no listing stands for `agree`: this one, which wants a command.
+#[cfg(feature = "verified")]
+#[test]
+fn fuzzing_a_wrong_program() {
+    let (status, printed, said) = peer(&["fuzz", "7", "300", env!("CARGO_BIN_EXE_peer")], &[]);
+    let printed = String::from_utf8(printed).unwrap();
+    assert!(status == 1 && printed.ends_with(" inputs with a difference\n8 passed, 1 failed\n"));
+    for words in ["agree: exit status: 2, on standard error ", "\n  sheet, ", "to repeat: peer fuzz 7 "] {
+        assert!(said.contains(words));
     }
 }

@@ -38,6 +38,15 @@ impl Lending {
         Lending { name, ours: before.clone(), theirs: before.clone(), before }
     }
 
+    /// A buffer that holds these bytes before the call.
+    pub fn holding(lot: &mut Lot, name: &'static str, bytes: &[u8]) -> Lending {
+        let mut lending = Lending::new(lot, name, bytes.len());
+        for lent in [&mut lending.before, &mut lending.ours, &mut lending.theirs] {
+            lent.bytes().copy_from_slice(bytes);
+        }
+        lending
+    }
+
     /// What is wrong with what the verified call has left, if anything is.
     fn fault(&self, refused: bool) -> Option<String> {
         if refused && self.theirs != self.before {
@@ -83,5 +92,15 @@ mod tests {
         assert!(difference(0, 0, &[&lending]).unwrap().starts_with("the log byte 9: peer "));
         lending.theirs.0[AROUND - 1] ^= 1;
         assert!(difference(0, 0, &[&lending]).unwrap().starts_with("the log byte -1: peer "));
+    }
+
+    #[test]
+    fn bytes_that_a_buffer_holds() {
+        let mut lending = Lending::holding(&mut Lot(1), "the station", &[4, 1, 1]);
+        assert_eq!(lending.ours.bytes(), [4, 1, 1]);
+        assert_eq!(difference(7, 7, &[&lending]), None);
+        lending.theirs.bytes()[2] = 2;
+        assert_eq!(difference(7, 7, &[&lending]).unwrap(), "the station is written in a refused call");
+        assert_eq!(difference(0, 0, &[&lending]).unwrap(), "the station byte 2: peer 1, verified 2");
     }
 }

@@ -2,12 +2,17 @@
 
 use super::input::Told;
 use super::lent::{difference, Lending};
-use super::Compared;
+use super::report::Compared;
 use crate::exchange::alone;
 use crate::ffi;
-use crate::line::{Cause, Header, Line};
+use crate::line::{Cause, Header, Line, Marks};
 use crate::lot::Lot;
 use crate::rehearsal;
+
+/// The numbers that the rehearsal can answer.
+pub const REHEARSE: [u8; 7] = [0, 2, 3, 4, 5, 6, 8];
+/// The numbers that the exchange had alone can answer.
+pub const EXCHANGE: [u8; 6] = [0, 2, 3, 5, 6, 8];
 
 fn number(answer: Result<(), Cause>) -> u8 {
     answer.map_or_else(Cause::number, |()| 0)
@@ -43,7 +48,7 @@ pub fn spoil(lot: &mut Lot, header: &mut Header) {
 }
 
 /// A length that is now and then another.
-fn len(lot: &mut Lot, exact: usize) -> usize {
+pub fn len(lot: &mut Lot, exact: usize) -> usize {
     match lot.below(60) {
         0 => exact + 1,
         1 => exact.saturating_sub(1),
@@ -53,7 +58,7 @@ fn len(lot: &mut Lot, exact: usize) -> usize {
 }
 
 /// The line of a header's numbers, another one where they are refused.
-fn line_of((n, t, upper): (u8, u8, u8)) -> Line {
+pub fn line_of((n, t, upper): (u8, u8, u8)) -> Line {
     Line::new(n, t, upper).unwrap_or_else(|_| Line::new(4, 1, 1).expect("a line"))
 }
 
@@ -65,13 +70,18 @@ pub fn rehearse(lot: &mut Lot) -> Compared {
     let table = lot.ballots(&line, table);
     let mut log = Lending::new(lot, "the log", log);
     let mut outcomes = Lending::new(lot, "the outcomes", outcomes);
-    let ours = rehearsal::rehearse(&header, &table, log.ours.bytes(), outcomes.ours.bytes());
-    let theirs = ffi::rehearse(&header, &table, log.theirs.bytes(), outcomes.theirs.bytes());
+    rehearse_into(&header, &table, &mut log, &mut outcomes)
+}
+
+/// A run rehearsed by both into lent buffers.
+pub fn rehearse_into(header: &Header, table: &[u8], log: &mut Lending, outcomes: &mut Lending) -> Compared {
+    let ours = rehearsal::rehearse(header, table, log.ours.bytes(), outcomes.ours.bytes());
+    let theirs = ffi::rehearse(header, table, log.theirs.bytes(), outcomes.theirs.bytes());
     let number = number(ours);
-    let differs = difference(number, theirs, &[&log, &outcomes]);
+    let differs = difference(number, theirs, &[log, outcomes]);
     let lengths = [log.theirs.bytes().len(), outcomes.theirs.bytes().len()].map(|len| len as u64);
     let told = |what: String| {
-        let told = Told::new(&what).header(&header).bytes("table", &table);
+        let told = Told::new(&what).header(header).bytes("table", table);
         told.number("log length", lengths[0]).number("outcomes length", lengths[1]).text()
     };
     Compared { number, difference: differs.map(told) }
@@ -106,13 +116,24 @@ pub fn exchange(lot: &mut Lot) -> Compared {
     let table = lot.ballots(&line, table);
     let outcomes = len(lot, line.outcomes_len());
     let mut outcomes = Lending::new(lot, "the outcomes", outcomes);
-    let number = number(alone(numbers, header.marks, &inputs, &table, outcomes.ours.bytes()));
-    let theirs = ffi::exchange(numbers, header.marks.0, &inputs, &table, outcomes.theirs.bytes());
-    let differs = difference(number, theirs, &[&outcomes]);
+    exchange_into(numbers, header.marks, &inputs, &table, &mut outcomes)
+}
+
+/// An exchange had alone by both, its outcomes into a lent buffer.
+pub fn exchange_into(
+    numbers: (u8, u8, u8),
+    marks: Marks,
+    inputs: &[u8],
+    table: &[u8],
+    outcomes: &mut Lending,
+) -> Compared {
+    let number = number(alone(numbers, marks, inputs, table, outcomes.ours.bytes()));
+    let theirs = ffi::exchange(numbers, marks.0, inputs, table, outcomes.theirs.bytes());
+    let differs = difference(number, theirs, &[outcomes]);
     let outcomes_len = outcomes.theirs.bytes().len() as u64;
     let told = |what: String| {
-        let told = Told::new(&what).line(numbers).marks(header.marks).bytes("inputs", &inputs);
-        told.bytes("table", &table).number("outcomes length", outcomes_len).text()
+        let told = Told::new(&what).line(numbers).marks(marks).bytes("inputs", inputs);
+        told.bytes("table", table).number("outcomes length", outcomes_len).text()
     };
     Compared { number, difference: differs.map(told) }
 }

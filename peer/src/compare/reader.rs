@@ -2,14 +2,18 @@
 
 use super::input::Told;
 use super::lent::{difference, Lending};
-use super::{sheets, Compared};
+use super::report::Compared;
+use super::sheets;
 use crate::ffi;
 use crate::line::{Cause, Line, LARGEST_TABLE};
 use crate::lot::Lot;
 use crate::sheet;
 
+/// The numbers that the reader can answer.
+pub const NUMBERS: [u8; 13] = [0, 1, 2, 3, 4, 5, 6, 8, 9, 10, 11, 12, 13];
+
 /// The length of a lent table: mostly the one that the sheet wants.
-fn table_len(lot: &mut Lot, sheet: &[u8]) -> usize {
+pub fn table_len(lot: &mut Lot, sheet: &[u8]) -> usize {
     let header = sheet::header(sheet);
     let line = header.and_then(|header| Line::new(header.n, header.t, header.upper));
     let exact = line.map_or(144, |line| line.table_len());
@@ -27,10 +31,14 @@ fn table_len(lot: &mut Lot, sheet: &[u8]) -> usize {
 pub fn read(lot: &mut Lot) -> Compared {
     let sheet = sheets::draw(lot);
     let len = table_len(lot, &sheet);
-    let mut table = Lending::new(lot, "the table", len);
-    let number = sheet::read(&sheet, table.ours.bytes()).map_or_else(Cause::number, |_| 0);
-    let theirs = ffi::read(&sheet, table.theirs.bytes());
-    let told =
-        |what: String| Told::new(&what).bytes("sheet", &sheet).number("table length", len as u64).text();
-    Compared { number, difference: difference(number, theirs, &[&table]).map(told) }
+    read_into(&sheet, &mut Lending::new(lot, "the table", len))
+}
+
+/// A sheet read into a lent table by both.
+pub fn read_into(sheet: &[u8], table: &mut Lending) -> Compared {
+    let number = sheet::read(sheet, table.ours.bytes()).map_or_else(Cause::number, |_| 0);
+    let theirs = ffi::read(sheet, table.theirs.bytes());
+    let len = table.theirs.bytes().len() as u64;
+    let told = |what: String| Told::new(&what).bytes("sheet", sheet).number("table length", len).text();
+    Compared { number, difference: difference(number, theirs, &[table]).map(told) }
 }

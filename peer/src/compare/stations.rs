@@ -1,12 +1,20 @@
 //! The calls of one station compared, in any state.
 
 use super::input::Told;
+use super::lent::{self, Lending};
 use super::lines::header;
-use super::Compared;
+use super::report::Compared;
 use crate::ffi;
 use crate::line::Cause;
 use crate::lot::Lot;
 use crate::station::{Answer, Station};
+
+/// The numbers that opening can answer.
+pub const OPEN: [u8; 5] = [0, 2, 3, 4, 5];
+/// The numbers that ballot and result can answer.
+pub const ASK: [u8; 5] = [0, 2, 3, 4, 7];
+/// The numbers that handing over a row can answer.
+pub const ADVANCE: [u8; 6] = [0, 2, 3, 4, 7, 8];
 
 /// An answer as the verified call gives it: the number above, the values below.
 pub fn word(answer: Result<u32, Cause>, refused: u32) -> u64 {
@@ -84,31 +92,63 @@ fn row(lot: &mut Lot, station: &Station) -> Vec<u8> {
 
 pub fn open(lot: &mut Lot) -> Compared {
     let header = header(lot);
-    let line = (header.n, header.t, header.upper);
     let own = own(lot, header.n, header.sender);
-    let opened = Station::open(line, header.sender, own, header.value);
-    let ours = word(opened.map(|station| ffi::state(&station)), 0);
-    let theirs = ffi::open(line, header.sender, own, header.value);
-    compared(ours, theirs, |told| {
-        told.line(line).number("sender", header.sender).number("own", own).number("value", header.value)
-    })
+    open_with((header.n, header.t, header.upper), header.sender, own, header.value)
 }
 
 pub fn ballot(lot: &mut Lot) -> Compared {
-    let station = station(lot);
-    let ours = word(station.ballot().map(u32::from), 0);
-    compared(ours, ffi::ballot(&station), |told| told.station(&station))
+    ballot_of(&station(lot))
 }
 
 pub fn advance(lot: &mut Lot) -> Compared {
     let station = station(lot);
+    advance_by(&station, &row(lot, &station))
+}
+
+pub fn advance_lent(lot: &mut Lot) -> Compared {
+    let station = station(lot);
     let row = row(lot, &station);
-    let ours = word(station.take(&row).map(|next| ffi::state(&next)), ffi::state(&station));
-    compared(ours, ffi::advance(&station, &row), |told| told.station(&station).bytes("row", &row))
+    advance_lent_by(&row, &mut Lending::holding(lot, "the station", &station.to_bytes()))
 }
 
 pub fn result(lot: &mut Lot) -> Compared {
-    let station = station(lot);
+    result_of(&station(lot))
+}
+
+/// A station opened by both.
+pub fn open_with(line: (u8, u8, u8), sender: u8, own: u8, value: u8) -> Compared {
+    let opened = Station::open(line, sender, own, value);
+    let ours = word(opened.map(|station| ffi::state(&station)), 0);
+    compared(ours, ffi::open(line, sender, own, value), |told| {
+        told.line(line).number("sender", sender).number("own", own).number("value", value)
+    })
+}
+
+/// A station's ballot told by both.
+pub fn ballot_of(station: &Station) -> Compared {
+    let ours = word(station.ballot().map(u32::from), 0);
+    compared(ours, ffi::ballot(station), |told| told.station(station))
+}
+
+/// A row taken by both.
+pub fn advance_by(station: &Station, row: &[u8]) -> Compared {
+    let ours = word(station.take(row).map(|next| ffi::state(&next)), ffi::state(station));
+    compared(ours, ffi::advance(station, row), |told| told.station(station).bytes("row", row))
+}
+
+/// A row taken by both where the station's nine bytes stand.
+pub fn advance_lent_by(row: &[u8], lent: &mut Lending) -> Compared {
+    let bytes: &mut [u8; 9] = lent.ours.bytes().try_into().expect("nine bytes");
+    let station = Station::from_bytes(*bytes);
+    let ours = station.take(row).map(|next| *bytes = next.to_bytes());
+    let number = ours.map_or_else(Cause::number, |()| 0);
+    let theirs = ffi::advance_lent(lent.theirs.bytes().try_into().expect("nine bytes"), row);
+    let told = |what: String| Told::new(&what).station(&station).bytes("row", row).text();
+    Compared { number, difference: lent::difference(number, theirs, &[lent]).map(told) }
+}
+
+/// A station's result told by both.
+pub fn result_of(station: &Station) -> Compared {
     let ours = word(station.result().map(result_values), 0);
-    compared(ours, ffi::result(&station), |told| told.station(&station))
+    compared(ours, ffi::result(station), |told| told.station(station))
 }

@@ -1,8 +1,8 @@
 //! Whole runs station by station: the verified station against the log and the outcomes.
 
 use super::input::Told;
+use super::report::Compared;
 use super::stations::{result_values, word};
-use super::Compared;
 use crate::ffi;
 use crate::line::{Header, Line};
 use crate::lot::Lot;
@@ -49,7 +49,12 @@ impl Run {
             if Some(ffi::ballot(&station)) != self.said(round, own).map(u64::from) {
                 return fault("the ballot is another", round);
             }
-            state = ffi::advance(&station, &self.heard(round, own));
+            let heard = self.heard(round, own);
+            state = ffi::advance(&station, &heard);
+            let mut lent = station.to_bytes();
+            if ffi::advance_lent(&mut lent, &heard) != 0 || lent != at(state).to_bytes() {
+                return fault("the lent station is another", round);
+            }
         }
         let [value, grade, flag] = [0, 1, 2].map(|byte| self.outcomes[usize::from(own - 1) * 3 + byte]);
         let done = word(Ok(result_values(Answer::Done { value, grade, flag })), 0);

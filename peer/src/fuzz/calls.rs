@@ -1,0 +1,230 @@
+//! What an input is to each call: its first bytes the numbers, the others its row, inputs or table. Numbers that
+//! an input is too short for are 0. The lengths of lent buffers are drawn, mostly the right ones.
+
+use super::features::{bits, features, of_ballot, of_outcomes, of_result, of_row, of_sheet};
+use super::pool::{Features, Shape};
+use crate::compare::lent::Lending;
+use crate::compare::report::Compared;
+use crate::compare::{lines, reader, stations};
+use crate::line::{Header, Line, Marks, SILENCE};
+use crate::lot::Lot;
+use crate::sheet::{self, HEADER_LEN, RECORDS, RECORD_LEN};
+use crate::station::Station;
+
+/// An input compared, and what is told coarsely of it.
+pub struct Tried {
+    pub compared: Compared,
+    pub features: Features,
+}
+
+/// Gives an input to both implementations.
+type Give = Box<dyn Fn(&mut Lot, &[u8]) -> Tried>;
+
+/// A call that is given inputs.
+pub struct Call {
+    pub name: &'static str,
+    pub shape: Shape,
+    /// It is given one in so many inputs.
+    pub one_in: u64,
+    /// The numbers that it can answer.
+    pub numbers: &'static [u8],
+    pub give: Give,
+}
+
+impl Call {
+    pub fn new(
+        name: &'static str,
+        shape: Shape,
+        one_in: u64,
+        numbers: &'static [u8],
+        give: impl Fn(&mut Lot, &[u8]) -> Tried + 'static,
+    ) -> Call {
+        Call { name, shape, one_in, numbers, give: Box::new(give) }
+    }
+}
+
+/// The calls of the static libraries.
+pub fn linked() -> Vec<Call> {
+    vec![
+        Call::new("read", Shape::Sheet, 1, &reader::NUMBERS, read),
+        Call::new("rehearse", Shape::Line, 1, &lines::REHEARSE, rehearse),
+        Call::new("exchange", Shape::Line, 1, &lines::EXCHANGE, exchange),
+        Call::new("open", Shape::Station, 1, &stations::OPEN, |_, input| open(input)),
+        Call::new("ballot", Shape::Station, 1, &stations::ASK, |_, input| ballot(input)),
+        Call::new("advance", Shape::Station, 1, &stations::ADVANCE, advance),
+        Call::new("advance_lent", Shape::Station, 1, &stations::ADVANCE, advance_lent),
+        Call::new("result", Shape::Station, 1, &stations::ASK, |_, input| result(input)),
+    ]
+}
+
+/// The first bytes, 0 where there are none.
+fn first<const N: usize>(input: &[u8]) -> [u8; N] {
+    let mut bytes = [0; N];
+    let len = input.len().min(N);
+    bytes[..len].copy_from_slice(&input[..len]);
+    bytes
+}
+
+/// The bytes from this place on.
+fn rest(input: &[u8], from: usize) -> &[u8] {
+    &input[from.min(input.len())..]
+}
+
+/// So many bytes: these, again from the first where they are too few. Silence of none.
+fn stretched(bytes: &[u8], len: usize) -> Vec<u8> {
+    let bytes = if bytes.is_empty() { &[SILENCE] } else { bytes };
+    bytes.iter().copied().cycle().take(len).collect()
+}
+
+/// A header of any bytes, laid out as in a sheet.
+fn header(input: &[u8]) -> Header {
+    let [n, t, upper, sender, value, _, _, _, marks @ ..] = first::<HEADER_LEN>(input);
+    Header { n, t, upper, sender, value, marks: Marks(u32::from_le_bytes(marks)) }
+}
+
+fn station(input: &[u8]) -> Station {
+    Station::from_bytes(first(input))
+}
+
+/// Of a call that isn't accepted only n is told.
+fn tried(compared: Compared, n: u8, accepted: Option<Features>) -> Tried {
+    let features = accepted.unwrap_or_else(|| features(&[bits(n.into())]));
+    Tried { compared, features }
+}
+
+/// The input as a sheet; half of the time cut to a sheet's length, and byte 5 set to zero, so that more is read
+/// of it than its form.
+pub fn sheet(lot: &mut Lot, input: &[u8]) -> Vec<u8> {
+    let mut sheet = input.to_vec();
+    if input.len() >= HEADER_LEN && lot.one_in(2) {
+        let k = (input.len() - HEADER_LEN) / RECORD_LEN;
+        sheet.truncate(HEADER_LEN + RECORD_LEN * k.min(RECORDS));
+        sheet[5] = 0;
+    }
+    sheet
+}
+
+fn read(lot: &mut Lot, input: &[u8]) -> Tried {
+    let sheet = sheet(lot, input);
+    let len = reader::table_len(lot, &sheet);
+    let compared = reader::read_into(&sheet, &mut Lending::new(lot, "the table", len));
+    Tried { compared, features: of_sheet(&sheet) }
+}
+
+/// The table that the sheet is read to, if it is accepted.
+fn read_table(lot: &mut Lot, input: &[u8], line: &Line) -> Option<Vec<u8>> {
+    let mut table = vec![0; line.table_len()];
+    sheet::read(&sheet(lot, input), &mut table).ok().map(|_| table)
+}
+
+/// A run: half of the time with the sheet's own table, else with one of any bytes.
+fn rehearse(lot: &mut Lot, input: &[u8]) -> Tried {
+    let header = header(input);
+    let line = lines::line_of((header.n, header.t, header.upper));
+    let read = if lot.one_in(2) { read_table(lot, input, &line) } else { None };
+    let len = lines::len(lot, line.table_len());
+    let table = read.unwrap_or_else(|| stretched(rest(input, HEADER_LEN), len));
+    let [log, outcomes] = [line.table_len(), line.outcomes_len()].map(|exact| lines::len(lot, exact));
+    let mut log = Lending::new(lot, "the log", log);
+    let mut outcomes = Lending::new(lot, "the outcomes", outcomes);
+    let compared = lines::rehearse_into(&header, &table, &mut log, &mut outcomes);
+    let accepted = compared.number == 0;
+    let accepted = accepted.then(|| of_outcomes(&line, header.marks, outcomes.ours.bytes()));
+    tried(compared, header.n, accepted)
+}
+
+/// An exchange of the header's line: the inputs first, half of the time only bits, then the table.
+fn exchange(lot: &mut Lot, input: &[u8]) -> Tried {
+    let Header { n, t, upper, marks, .. } = header(input);
+    let line = lines::line_of((n, t, upper));
+    let bytes = rest(input, HEADER_LEN);
+    let [inputs_len, table_len, outcomes_len] =
+        [line.n(), 2 * line.round_len(), line.outcomes_len()].map(|exact| lines::len(lot, exact));
+    let mut inputs = stretched(bytes, inputs_len);
+    if lot.one_in(2) {
+        inputs.iter_mut().for_each(|byte| *byte &= 1);
+    }
+    let table = stretched(rest(bytes, inputs_len), table_len);
+    let mut outcomes = Lending::new(lot, "the outcomes", outcomes_len);
+    let compared = lines::exchange_into((n, t, upper), marks, &inputs, &table, &mut outcomes);
+    let accepted = compared.number == 0;
+    let accepted = accepted.then(|| of_outcomes(&line, marks, outcomes.ours.bytes()));
+    tried(compared, n, accepted)
+}
+
+fn open(input: &[u8]) -> Tried {
+    let [n, t, upper, sender, own, value] = first(input);
+    tried(stations::open_with((n, t, upper), sender, own, value), n, None)
+}
+
+fn ballot(input: &[u8]) -> Tried {
+    let station = station(input);
+    let accepted = station.ballot().ok().map(|ballot| of_ballot(&station, ballot));
+    tried(stations::ballot_of(&station), station.n, accepted)
+}
+
+/// A station and its row: mostly of n bytes, else what the input has.
+fn station_and_row(lot: &mut Lot, input: &[u8]) -> (Station, Vec<u8>) {
+    let station = station(input);
+    let bytes = rest(input, 9);
+    let near = lines::len(lot, station.n.into());
+    let len = if lot.one_in(16) { bytes.len() } else { near };
+    (station, stretched(bytes, len))
+}
+
+fn advance(lot: &mut Lot, input: &[u8]) -> Tried {
+    let (station, row) = station_and_row(lot, input);
+    let accepted = station.take(&row).ok().map(|next| of_row(&station, &next));
+    tried(stations::advance_by(&station, &row), station.n, accepted)
+}
+
+fn advance_lent(lot: &mut Lot, input: &[u8]) -> Tried {
+    let (station, row) = station_and_row(lot, input);
+    let accepted = station.take(&row).ok().map(|next| of_row(&station, &next));
+    let mut lent = Lending::holding(lot, "the station", &station.to_bytes());
+    tried(stations::advance_lent_by(&row, &mut lent), station.n, accepted)
+}
+
+fn result(input: &[u8]) -> Tried {
+    let station = station(input);
+    let accepted = station.result().ok().map(of_result);
+    tried(stations::result_of(&station), station.n, accepted)
+}
+
+#[cfg(test)]
+mod tests {
+    use super::*;
+
+    #[test]
+    fn what_an_input_is() {
+        assert_eq!(first::<4>(&[7, 8]), [7, 8, 0, 0]);
+        assert_eq!(first::<1>(&[7, 8]), [7]);
+        assert_eq!(rest(&[7, 8, 9], 2), [9]);
+        assert_eq!(rest(&[7, 8, 9], 4), []);
+        assert_eq!(stretched(&[7, 8], 5), [7, 8, 7, 8, 7]);
+        assert_eq!(stretched(&[], 2), [255, 255]);
+        let marks = Marks(0x0403_0201);
+        let told = Header { n: 9, t: 8, upper: 7, sender: 6, value: 5, marks };
+        assert_eq!(header(&[9, 8, 7, 6, 5, 4, 3, 2, 1, 2, 3, 4]), told);
+        assert_eq!(header(&[9, 8, 7, 6, 5, 4, 3, 2, 1, 2]).marks, Marks(0x0201));
+    }
+
+    /// Case A as it stands, and as a station in its first round.
+    #[test]
+    fn case_a() {
+        let sheet = include_bytes!("../../../examples/a.sheet");
+        let mut opened = *sheet;
+        opened[5] = 1;
+        opened[8] = 0;
+        let numbers = |input: &[u8], seed: u64| {
+            let of = |call: Call| (call.give)(&mut Lot(seed), input).compared;
+            let all: Vec<Compared> = linked().into_iter().map(of).collect();
+            assert!(all.iter().all(|compared| compared.difference.is_none()));
+            all.iter().map(|compared| compared.number).collect::<Vec<u8>>()
+        };
+        let seeds = 0..40;
+        assert!(seeds.clone().any(|seed| numbers(sheet, seed) == [0, 0, 0, 0, 7, 7, 7, 7]));
+        assert!(seeds.clone().any(|seed| numbers(&opened, seed)[3..] == [0, 0, 0, 0, 0]));
+        assert!(seeds.clone().any(|seed| numbers(&opened, seed)[5..7] == [8, 8]));
+    }
+}

@@ -1,0 +1,117 @@
+//! What is told coarsely of an input and its answer, so that a new kind is noticed.
+
+use super::pool::Features;
+use crate::line::{Header, Line, Marks, Part, SILENCE};
+use crate::sheet::{self, HEADER_LEN, RECORD_LEN};
+use crate::station::{Answer, Station};
+
+/// These features, at most eight.
+pub fn features(list: &[u8]) -> Features {
+    let mut features = [0; 8];
+    features[..list.len()].copy_from_slice(list);
+    features
+}
+
+/// A number told by how many bits it has.
+pub fn bits(number: usize) -> u8 {
+    (usize::BITS - number.leading_zeros()) as u8
+}
+
+/// Of a sheet: its line, how far its chain goes, which ballots it tells, how many stations are marked.
+pub fn of_sheet(sheet: &[u8]) -> Features {
+    let Ok(header) = sheet::header(sheet) else { return features(&[bits(sheet.len())]) };
+    let Header { n, t, marks, .. } = header;
+    if header.judge().is_err() {
+        return features(&[0, bits(n.into())]);
+    }
+    let ballots = chained(sheet);
+    let kind = |ballot: u8| 1 << if ballot == SILENCE { 4 } else { ballot.min(3) };
+    let kinds = ballots.iter().fold(0, |kinds, &ballot| kinds | kind(ballot));
+    let walked = bits(ballots.len());
+    features(&[0, bits(n.into()), bits(t.into()), walked, kinds, bits(marks.count() as usize)])
+}
+
+/// The ballots of the records that a chain reaches until it ends, leaves the sheet or comes back.
+fn chained(sheet: &[u8]) -> Vec<u8> {
+    let k = (sheet.len() - HEADER_LEN) / RECORD_LEN;
+    let next = |at: usize| usize::from(u16::from_le_bytes([sheet[at], sheet[at + 1]]));
+    let mut reached = vec![false; k + 1];
+    let (mut index, mut ballots) = (next(6), Vec::new());
+    while (1..=k).contains(&index) && !reached[index] {
+        reached[index] = true;
+        let at = HEADER_LEN + RECORD_LEN * (index - 1);
+        ballots.push(sheet[at + 3]);
+        index = next(at + 4);
+    }
+    ballots
+}
+
+/// Of an accepted run or exchange: its line, f beside the thresholds, which outcomes came.
+pub fn of_outcomes(line: &Line, marks: Marks, outcomes: &[u8]) -> Features {
+    let f = marks.count();
+    let beside = u8::from(f > line.t().into()) + u8::from(f > line.upper().into());
+    let kind = |outcome: &[u8]| 1 << (3 * outcome[0] + outcome[1]);
+    let good = outcomes.chunks_exact(3).filter(|outcome| outcome[0] <= 1);
+    let kinds = good.fold(0, |kinds, outcome| kinds | kind(outcome));
+    features(&[bits(line.n()), bits(line.t().into()), beside, kinds])
+}
+
+/// Of an accepted row: the round's part, the station before and after.
+pub fn of_row(station: &Station, next: &Station) -> Features {
+    let state = |s: &Station| 9 * s.value + 3 * s.z + s.grade;
+    features(&[bits(station.n.into()), part(station), state(station), state(next)])
+}
+
+/// Of an accepted ballot: the round's part, the byte.
+pub fn of_ballot(station: &Station, ballot: u8) -> Features {
+    features(&[bits(station.n.into()), part(station), ballot])
+}
+
+/// Of a result: running, or done with its outcome.
+pub fn of_result(answer: Answer) -> Features {
+    match answer {
+        Answer::Running { round } => features(&[0, bits(round.into())]),
+        Answer::Done { value, grade, flag } => features(&[1, value, grade, flag]),
+    }
+}
+
+/// What the current round of an accepted station is for.
+fn part(station: &Station) -> u8 {
+    let line = Line::new(station.n, station.t, station.upper).expect("an accepted line");
+    match line.part(station.round) {
+        Part::Sender => 0,
+        Part::First => 1,
+        Part::Second => 2,
+        Part::King(king) => 3 + u8::from(king == station.own),
+    }
+}
+
+#[cfg(test)]
+mod tests {
+    use super::*;
+
+    #[test]
+    fn how_far_a_chain_goes() {
+        let sheet = |first: u8, nexts: &[u8]| {
+            let mut sheet = vec![4, 1, 1, 1, 1, 0, first, 0, 8, 0, 0, 0];
+            let records = nexts.iter().zip(10..);
+            records.for_each(|(&next, ballot)| sheet.extend([1, 4, 1, ballot, next, 0, 0, 0]));
+            sheet
+        };
+        assert_eq!(chained(&sheet(0, &[0])), []);
+        assert_eq!(chained(&sheet(1, &[])), []);
+        assert_eq!(chained(&sheet(2, &[0, 1])), [11, 10]);
+        assert_eq!(chained(&sheet(1, &[2, 3, 1])), [10, 11, 12]);
+        assert_eq!(chained(&sheet(1, &[2, 9, 0])), [10, 11]);
+    }
+
+    #[test]
+    fn sizes_and_outcomes() {
+        assert_eq!([0, 1, 2, 3, 4, 4_096].map(bits), [0, 1, 2, 2, 3, 13]);
+        let line = Line::new(4, 0, 1).unwrap();
+        let told = |marks: u32, outcomes: &[u8]| of_outcomes(&line, Marks(marks), outcomes);
+        assert_eq!(told(0, &[0, 2, 0, 0, 2, 0]), [3, 0, 0, 4, 0, 0, 0, 0]);
+        assert_eq!(told(2, &[0, 0, 1, 255, 255, 255, 1, 2, 0]), [3, 0, 1, 33, 0, 0, 0, 0]);
+        assert_eq!(told(6, &[0, 0, 1, 255, 255, 255, 255, 255, 255]), [3, 0, 2, 1, 0, 0, 0, 0]);
+    }
+}

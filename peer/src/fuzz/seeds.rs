@@ -1,0 +1,14 @@
+//! What a fuzz begins with: nothing, a header of zeros, and the sheets of `examples/`.
+
+use crate::sheet::HEADER_LEN;
+
+pub const SEEDS: [&[u8]; 8] = [
+    &[],
+    &[0; HEADER_LEN],
+    include_bytes!("../../../examples/a.sheet"),
+    include_bytes!("../../../examples/b.sheet"),
+    include_bytes!("../../../examples/c.sheet"),
+    include_bytes!("../../../examples/d.sheet"),
+    include_bytes!("../../../examples/d-bad.sheet"),
+    include_bytes!("../../../examples/large.sheet"),
+];
