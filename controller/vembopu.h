@@ -49,8 +49,9 @@ enum {
     VEMBOPU_BAD_THRESHOLDS = 3, /* t above T, or t + 2T not below n */
     VEMBOPU_BAD_NUMBER = 4,     /* sender or own outside 1 to n */
     VEMBOPU_BAD_VALUE = 5,      /* value not 0 or 1 */
-    VEMBOPU_BAD_STATE = 7,      /* a state that no station has, or a ballot or
-                                   row wanted of a done station */
+    VEMBOPU_BAD_STATE = 7,      /* round outside 1 to R + 1, value above 1, z or
+                                   grade above 2; or a ballot or row wanted of
+                                   a done station */
     VEMBOPU_BAD_ROW = 8         /* row_len is not n */
 };
 
