@@ -1,0 +1,121 @@
+-- A station's calls in a row: what each answers, on any rows. Assumes nothing.
+use Prim.Native.Nat.{ℕ, suc, _+_, _≤_, _<_}
+use mathlib.Core.Path.{_≡_, refl, ap, _∙_}
+use mathlib.Core.List.{List}
+use native.Mathlib.Omega.{arith}
+use lib.ListN.{length}
+use borrow.Author.Tests.{eq-eqb, ltb-false}
+use Rattle.line.specs.Line.{rounds, most-stations, Fits}
+use Rattle.line.specs.Header.{station-count, thresholds, station-number, bit}
+use Rattle.line.specs.declared.cause.Cause.the-variants.{StationState}
+use Rattle.line.specs.declared.cause.Verdict.{Verdict}
+use Rattle.line.specs.declared.cause.Verdict.the-variants.{Accepted, Refused}
+use Rattle.line.proofs.HeaderLaws.{both-accepted, accepted-false, refused-true, inside, fitting}
+use Rattle.broadcast.specs.Station.{advance, result, at, after}
+use Rattle.broadcast.proofs.RoundLaws.{after-range, after-round, done-after}
+use Rattle.station.specs.declared.Station.{Station}
+use Rattle.station.specs.declared.Outcome.{Outcome}
+use Rattle.station.specs.Judgement.{is-done, telling-verdict, taking-verdict, opening-verdict, Sound}
+use Rattle.station.specs.Automaton.{setup-of, state-of, in-state, opened-station, as-outcome, outcome-of}
+use Rattle.station.specs.Answers.{outcome-by, Results}
+use Rattle.station.specs.Theorems.{Opening, setup, state-after, station-after, InARow}
+use Rattle.station.proofs.SoundLaws.{sound-accepts, telling-accepts, taking-accepts}
+
+-- what opening lets through
+record Opens-well (o : Opening) : Type 0 where
+  most : o .n ≤ 32
+  fits : Fits (o .n) (o .t) (o .T)
+  sender-low : 1 ≤ o .sender
+  sender-high : o .sender ≤ o .n
+  own-low : 1 ≤ o .own
+  own-high : o .own ≤ o .n
+  value-bit : o .value ≤ 1
+
+opens-well : (o : Opening) → opening-verdict (o .n) (o .t) (o .T) (o .sender) (o .own) (o .value) ≡ Accepted → Opens-well o
+unfolding opening-verdict station-count thresholds station-number bit
+opens-well o e =
+    let (a, e₂) = both-accepted _ _ e in
+    let (b, e₃) = both-accepted _ _ e₂ in
+    let (c, e₄) = both-accepted _ _ e₃ in
+    let (d, f) = both-accepted _ _ e₄ in
+    let sender = inside 1 (o .n) (o .sender) (accepted-false _ _ c) in
+    let own = inside 1 (o .n) (o .own) (accepted-false _ _ d) in
+    record {
+      most = inside 1 most-stations (o .n) (accepted-false _ _ a) .1;
+      fits = fitting (o .n) (o .t) (o .T) (accepted-false _ _ b);
+      sender-low = sender .0;
+      sender-high = sender .1;
+      own-low = own .0;
+      own-high = own .1;
+      value-bit = ltb-false 1 (o .value) (accepted-false _ _ f);
+    }
+
+-- a done station's verdict
+done-telling : (s : Station) → Sound s → s .round ≡ rounds (s .t) + 1 → telling-verdict s ≡ Refused StationState
+unfolding telling-verdict is-done
+done-telling s h e = rw (sound-accepts s h) (refused-true _ (eq-eqb (s .round) (rounds (s .t) + 1) e))
+
+done-taking : (s : Station) (row : ℕ) → Sound s → s .round ≡ rounds (s .t) + 1 → taking-verdict s row ≡ Refused StationState
+unfolding taking-verdict
+done-taking s row h e = rw (done-telling s h e)
+
+module _ (o : Opening) (e : opening-verdict (o .n) (o .t) (o .T) (o .sender) (o .own) (o .value) ≡ Accepted) (rows : ℕ → List ℕ) where
+  abbrev S : ℕ → Station
+  S = station-after o rows
+
+  well : Opens-well o
+  well = opens-well o e
+
+  sound-after : (m : ℕ) → m ≤ rounds (o .t) → Sound (S m)
+  sound-after m l =
+      let g = after-range (setup o) (o .value) rows (well .value-bit) m in
+      let r = after-round (setup o) (o .value) rows m in
+      record {
+        most = well .most;
+        fits = well .fits;
+        sender-low = well .sender-low;
+        sender-high = well .sender-high;
+        own-low = well .own-low;
+        own-high = well .own-high;
+        round-low = omega arith;
+        round-high = omega arith;
+        value-bit = g .value-bit;
+        z-high = g .z-high;
+        grade-high = g .grade-high;
+      }
+
+  last : S (rounds (o .t)) .round ≡ rounds (o .t) + 1
+  last = omega (arith, after-round (setup o) (o .value) rows (rounds (o .t)))
+
+  telling : (m : ℕ) → m < rounds (o .t) → telling-verdict (S m) ≡ Accepted
+  telling m h =
+      let r = after-round (setup o) (o .value) rows m in
+      telling-accepts (S m) (sound-after m (omega arith)) (omega arith)
+
+  taking : (m : ℕ) → m < rounds (o .t) → length (rows (suc m)) ≡ o .n → taking-verdict (S m) (length (rows (suc m))) ≡ Accepted
+  taking m h q =
+      let r = after-round (setup o) (o .value) rows m in
+      taking-accepts (S m) (rows (suc m)) (record { sound = sound-after m (omega arith); round-left = omega arith; whole = q })
+
+  stepped : (m : ℕ) → in-state (S m) (advance (setup-of (S m)) (state-of (S m)) (at (rows (suc m)))) ≡ S (suc m)
+  unfolding after
+  stepped m = refl
+
+  opened-is : opened-station (o .n) (o .t) (o .T) (o .sender) (o .own) (o .value) ≡ S 0
+  unfolding opened-station after
+  opened-is = refl
+
+  shown : (m : ℕ) → m ≤ rounds (o .t) → (r : Outcome) → Results (S m) r → r ≡ as-outcome (result (setup o) (state-after o rows m))
+  unfolding outcome-of
+  shown m h r p = p .answer ∙ ap (λ (v : Verdict). outcome-by v (outcome-of (S m))) (sound-accepts (S m) (sound-after m h))
+
+  pub in-a-row : InARow o rows
+  in-a-row = record {
+    opens = λ r p. p .answer ∙ rw (e, opened-is);
+    tells = λ m h r p. p .answer ∙ rw (telling m h);
+    advances = λ m h q r p. p .answer ∙ rw (taking m h q, stepped m);
+    running = λ m h r p. shown m (omega arith) r p ∙ ap as-outcome (done-after (setup o) (o .value) rows .running-before m h);
+    done = λ r p. shown (rounds (o .t)) (omega arith) r p ∙ ap as-outcome (done-after (setup o) (o .value) rows .done-after);
+    tells-no-more = λ r p. p .answer ∙ rw (done-telling (S (rounds (o .t))) (sound-after (rounds (o .t)) (omega arith)) last);
+    takes-no-more = λ row r p. p .answer ∙ rw (done-taking (S (rounds (o .t))) (length row) (sound-after (rounds (o .t)) (omega arith)) last);
+  }
