@@ -113,7 +113,8 @@ fn commands_that_are_not_built() {
 #[test]
 fn comparing() {
     let (status, printed, said) = peer(&["compare", "7", "3"], &[]);
-    assert_eq!((status, said.as_str()), (0, ""));
+    // a slow machine may have said how far it is
+    assert!(status == 0 && !said.contains("to repeat: "));
     let printed = String::from_utf8(printed).unwrap();
     assert!(printed.starts_with("seed 7, 3 turns; ") && printed.ends_with("\n9 passed, 0 failed\n"));
     for words in [&["compare", "x"][..], &["compare", "1", "2", "3"], &["bench", "1"]] {
