@@ -21,7 +21,7 @@ static uint8_t some_row[LONGEST_ROW];
 /* ---- The lent station ---- */
 
 /* What the lent call is said to answer if it writes what it must not. */
-enum { NUMBERS_WRITTEN = 14, WRITTEN_BESIDE = 15, OTHER_AT_END = 16 };
+enum { NUMBERS_WRITTEN = 14, WRITTEN_BESIDE = 15, OTHER_AT_END = 16, OTHER_READ_ONLY = 17 };
 
 static struct guarded lent_page;
 static uint8_t *untouched; /* a copy of the page */
@@ -37,13 +37,17 @@ static void make_lent_page(void)
     memcpy(lent_page.page, untouched, lent_page.size);
 }
 
+static struct vembopu_station station_of(const struct call *c)
+{
+    return vembopu_station_of((uint8_t)c->n, (uint8_t)c->t, (uint8_t)c->T, (uint8_t)c->sender, (uint8_t)c->own,
+                              state_bits(c));
+}
+
 /* The lent call as vembopu_advance answers, with the station at a place of the
    page. The page's other bytes must stay. */
 static uint64_t lent_at(size_t place, const struct call *c)
 {
-    struct vembopu_station before = vembopu_station_of(
-        (uint8_t)c->n, (uint8_t)c->t, (uint8_t)c->T, (uint8_t)c->sender, (uint8_t)c->own, state_bits(c));
-    struct vembopu_station after;
+    struct vembopu_station before = station_of(c), after;
     uint8_t *s = lent_page.page + place;
     memcpy(s, &before, sizeof before);
     int number = vembopu_advance_lent((struct vembopu_station *)s, c->row, c->row_len);
@@ -57,12 +61,31 @@ static uint64_t lent_at(size_t place, const struct call *c)
     return answer(number, vembopu_state_of(&after));
 }
 
-/* The station at the page's start, then at its end. */
+/* The number of a refused call on a page that can only be read: a write of
+   any byte would end the program. */
+static uint32_t lent_read_only(const struct call *c)
+{
+    struct vembopu_station before = station_of(c);
+    memcpy(lent_page.page, &before, sizeof before);
+    mprotect(lent_page.page, lent_page.size, PROT_READ);
+    uint32_t number = vembopu_advance_lent((struct vembopu_station *)lent_page.page, c->row, c->row_len);
+    mprotect(lent_page.page, lent_page.size, PROT_READ | PROT_WRITE);
+    memcpy(lent_page.page, untouched, sizeof before);
+    return number;
+}
+
+/* The station at the page's start, then at its end; and if it is refused, once
+   more where nothing can be written. */
 static uint64_t lent(const struct call *c)
 {
     uint64_t at_start = lent_at(0, c);
     uint64_t at_end = lent_at(lent_page.size - sizeof(struct vembopu_station), c);
-    return at_start == at_end ? at_start : answer(OTHER_AT_END, 0);
+    uint32_t number = vembopu_refusal(at_start);
+    if (at_start != at_end)
+        return answer(OTHER_AT_END, 0);
+    if (number != 0 && number < NUMBERS_WRITTEN && lent_read_only(c) != number)
+        return answer(OTHER_READ_ONLY, 0);
+    return at_start;
 }
 
 /* ---- The calls, by their bit ---- */

@@ -136,15 +136,14 @@ struct vembopu_station {
  * vembopu_advance on a station that the caller keeps: the station takes the
  * row that it received in the current round, where it stands.
  *
- * s        points to nine writable bytes, in a refused call too, which the row
- *          doesn't overlap and nobody else reads or writes during the call.
- *          Any bytes may stand there.
+ * s        points to nine bytes, which the row doesn't overlap and nobody else
+ *          reads or writes during the call. Any bytes may stand there.
  * row      and row_len as for vembopu_advance.
  *
  * Answers 0 if the row is taken: round, value, z and grade at s are then those
  * after the row, the five numbers as they were.
- * Refused: 2, 3, 4, 7, 8; all nine bytes are then as they were, so that another
- * row may be tried.
+ * Refused: 2, 3, 4, 7, 8; nothing is written then, so that another row may be
+ * tried.
  */
 uint8_t vembopu_advance_lent(struct vembopu_station *s, const uint8_t *row,
                              size_t row_len);

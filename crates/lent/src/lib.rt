@@ -5,36 +5,34 @@ use line::cause::Cause;
 use station::Advanced;
 use station::Station;
 
-// What a row makes of a station, and what is answered.
-struct Taken {
-    station: Station,
-    answer: u8,
+// What a row makes of a station: the one after it, or the number of the cause by which the row is refused.
+enum Taken {
+    Next(Station),
+    Refused(u8),
 }
 
-// The step by value: the station after the row and 0, or the same station and the number of the cause.
+// The step by value.
 fn take(s: Station, row: &[u8]) -> Taken
     ensures { λ r. ⌜ r ≡ taken s (now (row .entry)) ⌝ }
 {
     let advanced = station::advance(s, row);
     match advanced {
-        Advanced::Next(next) => Taken {
-            station: next,
-            answer: 0,
-        },
-        Advanced::Refused(c) => Taken {
-            station: s,
-            answer: c.number(),
-        },
+        Advanced::Next(next) => Taken::Next(next),
+        Advanced::Refused(c) => Taken::Refused(c.number()),
     }
 }
 
-// The lent station takes the row that it received in the current round. The answer is 0, or the number of the cause by which the row is refused; the
-// station is then as it was.
+// The lent station takes the row that it received in the current round. The answer is 0, or the number of the cause by which the row is refused; nothing is
+// written then.
 #[no_mangle]
 pub extern "C" fn vembopu_advance_lent(s: &mut Station, row: &[u8]) -> u8
     ensures { λ r. ⌜ AdvancesLent (now (s .entry)) (now (row .entry)) (now (s .exit)) r ⌝ }
 {
-    let r = take(*s, row);
-    *s = r.station;
-    r.answer
+    match take(*s, row) {
+        Taken::Next(next) => {
+            *s = next;
+            0
+        }
+        Taken::Refused(k) => k,
+    }
 }

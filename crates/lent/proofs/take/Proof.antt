@@ -18,12 +18,12 @@ number-requires : tie.Need-number-requires
 number-requires c κs = search needs
 
 returns : tie.Need-returns
-returns c = ap (made _) (sym (c .before .advanced .given .1)) ∙ made-taken _ _ _ (c .before .before .before .advance .ensures)
+returns c = ap made (sym (c .before .advanced .given .1)) ∙ made-taken _ _ _ (c .before .before .before .advance .ensures)
 
 returns-2 : tie.Need-returns-2
 returns-2 c =
     rw (c .number .ensures)
-    (ap (made _) (sym (c .before .before .advanced2 .given .1)) ∙ made-taken _ _ _ (c .before .before .before .before .advance .ensures))
+    (ap made (sym (c .before .before .advanced2 .given .1)) ∙ made-taken _ _ _ (c .before .before .before .before .advance .ensures))
 
 pub take-spec : {M : Type 1} → statement M
 take-spec =
