@@ -109,14 +109,23 @@ fn commands_that_are_not_built() {
     assert_eq!(peer(&["bench"], &[]), (2, vec![], said));
 }
 
+/// Seed 7 and so many turns of a command that compares nine calls: all pass, without a difference.
 #[cfg(feature = "verified")]
-#[test]
-fn comparing() {
-    let (status, printed, said) = peer(&["compare", "7", "3"], &[]);
+fn finds_no_difference(command: &str, turns: &str) {
+    let (status, printed, said) = peer(&[command, "7", turns], &[]);
     // a slow machine may have said how far it is
     assert!(status == 0 && !said.contains("to repeat: "));
     let printed = String::from_utf8(printed).unwrap();
-    assert!(printed.starts_with("seed 7, 3 turns; ") && printed.ends_with("\n9 passed, 0 failed\n"));
+    assert!(
+        printed.starts_with(&format!("seed 7, {turns} turns; "))
+            && printed.ends_with("\n9 passed, 0 failed\n")
+    );
+}
+
+#[cfg(feature = "verified")]
+#[test]
+fn comparing() {
+    finds_no_difference("compare", "3");
     for words in [&["compare", "x"][..], &["compare", "1", "2", "3"], &["bench", "1"]] {
         assert_eq!(peer(words, &[]).0, 2);
     }
@@ -125,11 +134,7 @@ fn comparing() {
 #[cfg(feature = "verified")]
 #[test]
 fn fuzzing() {
-    let (status, printed, said) = peer(&["fuzz", "7", "300"], &[]);
-    // a slow machine may have said how far it is
-    assert!(status == 0 && !said.contains("to repeat: "));
-    let printed = String::from_utf8(printed).unwrap();
-    assert!(printed.starts_with("seed 7, 300 turns; ") && printed.ends_with("\n9 passed, 0 failed\n"));
+    finds_no_difference("fuzz", "300");
     for words in [&["fuzz", "x"][..], &["fuzz", "1", "2m"], &["fuzz", "1", "1", "a", "b"]] {
         assert_eq!(peer(words, &[]).0, 2);
     }
