@@ -119,6 +119,12 @@ pub widen : (m n : ℕ) (p : ℕ → Bool) → m ≤ n → count m p ≤ count n
 unfolding count
 widen m n p h = le-ind (λ (k : ℕ). count m p ≤ count k p) (le-refl (count m p)) (λ k l ih. omega arith) n h
 
+-- from m on nobody passes
+pub count-more : (m n : ℕ) (p : ℕ → Bool) → m ≤ n → ((k : ℕ) → m ≤ k → p k ≡ false) → count n p ≡ count m p
+unfolding count
+count-more m n p h none =
+    le-ind (λ (k : ℕ). count k p ≡ count m p) refl (λ k l ih. rw (none k l) (omega arith)) n h
+
 -- not all of the first m pass: one of them fails
 pub witness : (m : ℕ) (p : ℕ → Bool) → count m p < m → (k : ℕ) × (k < m) × (p k ≡ false)
 unfolding count

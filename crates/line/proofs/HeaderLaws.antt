@@ -1,20 +1,23 @@
 -- Laws of the judgement: nothing is refused exactly if every number is as document 01 wants it. Assumes nothing.
 use Prim.Native.Nat.{ℕ, _+_, _*_, _≤_}
-use mathlib.Core.Path.{_≡_, refl}
+use mathlib.Core.Path.{_≡_, refl, ap}
 use mathlib.Core.Bool.{Bool, true, false, _||_}
 use native.Mathlib.Omega.{arith}
 use lib.Dec.{leb, ltb, eqb}
 use borrow.Author.Tests.{leb-false, ltb-false, le-ltb, lt-leb, eqb-true, eq-eqb, not-false}
 use Rattle.line.specs.Line.{Fits, most-stations}
 use Rattle.line.specs.Marks.{marked}
-use Rattle.line.specs.Cause.{refused-if, _or-else_}
-use Rattle.line.specs.Header.{outside, exceeded, mark-beyond, station-count, thresholds, station-number, bit, marks-within, exact-length, header-verdict, Sound}
+use Rattle.line.specs.Cause.{code, Judged, refused-if, _or-else_}
+use Rattle.line.specs.Header.{outside, exceeded, mark-beyond, station-count, thresholds, station-number, bit, marks-within, exact-length, line-verdict, header-verdict, Sound}
 use Rattle.line.specs.declared.cause.Cause.{Cause}
 use Rattle.line.specs.declared.cause.Verdict.{Verdict}
 use Rattle.line.specs.declared.cause.Verdict.the-variants.{Accepted, Refused}
 use Rattle.line.proofs.MarksLaws.{beyond-none, beyond-some}
 
 -- ---- verdicts
+
+pub judged : {verdict answer : Verdict} → answer ≡ verdict → Judged verdict answer
+judged e = record { answer-is = e; number-is = ap code e }
 
 pub refused-true : {test : Bool} (c : Cause) → test ≡ true → refused-if test c ≡ Refused c
 unfolding refused-if
@@ -77,11 +80,11 @@ within-not n marks h = go (mark-beyond n marks) refl
 
 -- ---- each verdict, where its number is as it should be
 
-pub count-accepts : (n : ℕ) → 1 ≤ n → n ≤ most-stations → station-count n ≡ Accepted
+count-accepts : (n : ℕ) → 1 ≤ n → n ≤ most-stations → station-count n ≡ Accepted
 unfolding station-count
 count-accepts n a b = refused-false _ (inside-not 1 most-stations n a b)
 
-pub thresholds-accept : (n t T : ℕ) → Fits n t T → thresholds n t T ≡ Accepted
+thresholds-accept : (n t T : ℕ) → Fits n t T → thresholds n t T ≡ Accepted
 unfolding thresholds
 thresholds-accept n t T f = refused-false _ (fitting-not n t T f)
 
@@ -101,23 +104,35 @@ pub length-accepts : (wanted found : ℕ) → found ≡ wanted → exact-length 
 unfolding exact-length
 length-accepts wanted found e = refused-false _ (rw (eq-eqb found wanted e))
 
+-- ---- causes 2 and 3
+
+pub line-sound : (n t T : ℕ) → line-verdict n t T ≡ Accepted → (1 ≤ n) × (n ≤ most-stations) × Fits n t T
+unfolding line-verdict station-count thresholds
+line-sound n t T e =
+    let (a, b) = both-accepted _ _ e in
+    let (some, most) = inside 1 most-stations n (accepted-false _ _ a) in (some, most, fitting n t T (accepted-false _ _ b))
+
+pub line-accepts : (n t T : ℕ) → n ≤ most-stations → Fits n t T → line-verdict n t T ≡ Accepted
+unfolding line-verdict
+line-accepts n t T h fits =
+    rw (count-accepts n (omega (arith, fits)) h, thresholds-accept n t T fits)
+
 -- ---- the whole header
 
 module _ (n t T sender value marks : ℕ) where
   -- nothing is refused: every number is as it should be
   pub header-sound : header-verdict n t T sender value marks ≡ Accepted → Sound n t T sender value marks
-  unfolding header-verdict station-count thresholds station-number bit marks-within
+  unfolding header-verdict station-number bit marks-within
   header-sound e =
       let (a, e₂) = both-accepted _ _ e in
-      let (b, e₃) = both-accepted _ _ e₂ in
-      let (c, e₄) = both-accepted _ _ e₃ in
-      let (d, m) = both-accepted _ _ e₄ in
-      let stations = inside 1 most-stations n (accepted-false _ _ a) in
+      let (c, e₃) = both-accepted _ _ e₂ in
+      let (d, m) = both-accepted _ _ e₃ in
+      let (some, most, fits) = line-sound n t T a in
       let from = inside 1 n sender (accepted-false _ _ c) in
       record {
-        some = stations .0;
-        most = stations .1;
-        fits = fitting n t T (accepted-false _ _ b);
+        some = some;
+        most = most;
+        fits = fits;
         sender-low = from .0;
         sender-high = from .1;
         value-bit = ltb-false 1 value (accepted-false _ _ d);
@@ -128,4 +143,4 @@ module _ (n t T sender value marks : ℕ) where
   pub header-accepts : Sound n t T sender value marks → header-verdict n t T sender value marks ≡ Accepted
   unfolding header-verdict
   header-accepts s =
-      rw (count-accepts n (s .some) (s .most), thresholds-accept n t T (s .fits), number-accepts n sender (s .sender-low) (s .sender-high), bit-accepts value (s .value-bit), marks-accept n marks (s .within))
+      rw (line-accepts n t T (s .most) (s .fits), number-accepts n sender (s .sender-low) (s .sender-high), bit-accepts value (s .value-bit), marks-accept n marks (s .within))

@@ -2,13 +2,14 @@
 use Prim.Native.Nat.{ℕ, _+_, _-_, _*_, _/_, _%_, _^_, _≤_, _<_}
 use mathlib.Core.Path.{_≡_, refl}
 use native.Mathlib.Omega.{arith}
-use native.Mathlib.Nat.{add-assoc, add-mul, suc-mul, mul-le-mul, lt-of-le-of-lt}
+use native.Mathlib.Nat.{add-assoc, zero-add, zero-mul, add-mul, suc-mul, mul-le-mul, lt-of-le-of-lt}
 use native.Mathlib.Numerals.{add-one}
 use lib.Dec.{T, ltb, lit<}
 use mir.Syntax.{w64}
 use mir.Val.{Fits as FitsWord}
 use lib.Arith.{digits-lt, digits-div, digits-mod}
 use Rattle.line.specs.Line.{Fits, rounds, table-length, place, largest-table}
+use Rattle.line.specs.Theorems.{PlaceSteps}
 
 -- ---- products
 
@@ -32,11 +33,30 @@ table-bound n t T h fits =
 pub table-reached : Fits 32 10 10 × (table-length 32 10 ≡ largest-table)
 table-reached = (record { order = omega arith; room = omega arith }, refl)
 
--- ---- a byte's place, from the start of its round
+-- ---- a byte's place, as document 01 has it, in step, and from the start of its round
+
+pub place-is : (n r i j : ℕ) → place n r (i - 1) (j - 1) ≡ ((r - 1) * n + (i - 1)) * n + (j - 1)
+unfolding place
+place-is n r i j = refl
 
 pub place-from-start : (n r i j : ℕ) → place n r i j ≡ (r - 1) * n * n + (i * n + j)
 unfolding place
 place-from-start n r i j = rw (add-mul, add-assoc)
+
+-- a round more, of n rows
+next-block : (q n : ℕ) → (q + 1) * n * n ≡ q * n * n + n * n
+next-block q n = rw (next-row q n, add-mul)
+
+pub place-steps : (n r i j : ℕ) → PlaceSteps n r i j
+place-steps n r i j = record {
+  first = rw (place-from-start n 1 0 0) (simp (zero-mul, zero-add));
+  next-receiver = omega (arith, place-from-start n r i (j + 1), place-from-start n r i j);
+  next-sender = omega (arith, place-from-start n r (i + 1) j, place-from-start n r i j, next-row i n);
+  next-round = λ h.
+      let q : r - 1 + 1 ≡ r = omega arith in
+      let p : r + 1 - 1 ≡ r = omega arith in
+      omega (arith, rw p at (place-from-start n (r + 1) i j), place-from-start n r i j, rw q at (next-block (r - 1) n));
+}
 
 -- ---- a byte's place tells its round, sender and receiver
 

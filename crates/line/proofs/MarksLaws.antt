@@ -1,7 +1,7 @@
 -- Laws of marks. Assumes nothing.
 use Prim.Native.Nat.{ℕ, zero, suc, _+_, _*_, _/_, _%_, _^_, _≤_, _<_}
 use mathlib.Core.Path.{_≡_, refl, sym}
-use mathlib.Core.Bool.{Bool, true, false}
+use mathlib.Core.Bool.{Bool, true, false, not}
 use mathlib.Core.Logic.{_⊎_, inl, inr, _↔_}
 use native.Mathlib.Omega.{arith}
 use native.Mathlib.Nat.{div-eq-of-lt, le-div-iff-mul-le, lt-of-lt-of-le, lt-of-not-le}
@@ -9,8 +9,11 @@ use lib.Dec.{leb}
 use lib.Pow.{pow-pos, pow-mono, shr-shr}
 use lib.Arith.{bin-ind}
 use borrow.Author.Tests.{leb-true, leb-false, le-leb, lt-leb, eq-eqb}
-use Rattle.line.specs.Marks.{marked}
+use Rattle.line.specs.Count.{count}
+use Rattle.line.specs.Line.{most-stations}
+use Rattle.line.specs.Marks.{marked, faults}
 use Rattle.line.specs.Header.{mark-beyond}
+use Rattle.line.proofs.CountLaws.{count-not, count-more}
 
 -- a bit above all that are 1 is no mark
 pub marked-above : (marks i : ℕ) → marks < 2 ^ i → marked marks i ≡ false
@@ -68,3 +71,12 @@ beyond-shift n marks = go (leb (2 ^ n) marks) refl
 pub beyond-above : (n marks w : ℕ) → w ≤ n → marks < 2 ^ w → mark-beyond n marks ≡ false
 unfolding mark-beyond
 beyond-above n marks w h l = lt-leb (2 ^ n) marks (lt-of-lt-of-le l (pow-mono h))
+
+-- ---- f
+
+pub faults-and-good : (n : ℕ) (bad : ℕ → Bool) → faults n bad + count n (λ i. not (bad i)) ≡ n
+faults-and-good n bad = omega (arith, count-not n bad)
+
+pub faults-are-marks : (n marks : ℕ) → n ≤ most-stations → mark-beyond n marks ≡ false
+    → faults n (marked marks) ≡ count most-stations (marked marks)
+faults-are-marks n marks h e = sym (count-more n most-stations (marked marks) h (λ k l. beyond-none n marks k e l))

@@ -1,5 +1,6 @@
 -- The causes of refusal by their numbers, and which of several is given (document 01, "Refused causes").
 use Prim.Native.Nat.{ℕ}
+use mathlib.Core.Path.{_≡_}
 use mathlib.Core.Bool.{Bool}
 use mathlib.Core.List.{List, []}
 use Rattle.line.specs.Count.{if_then_else_}
@@ -28,6 +29,11 @@ number Duplicate = 13
 abbrev pub code : Verdict → ℕ
 code Accepted = 0
 code (Refused c) = number c
+
+-- what every call that judges promises: its answer, and document 01's number of it
+pub record Judged (verdict answer : Verdict) : Type 0 where
+  pub answer-is : answer ≡ verdict
+  pub number-is : code answer ≡ code verdict
 
 -- refused by the cause c if the test holds: "A number is used only if its cause holds."
 unfoldable pub refused-if : Bool → Cause → Verdict

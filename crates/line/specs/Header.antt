@@ -33,16 +33,12 @@ station-number n i = refused-if (outside 1 n i) StationNumber
 unfoldable pub bit : ℕ → Verdict
 bit v = refused-if (ltb 1 v) Value
 
--- "a mark beyond station n": bit n, counted from 0, or a higher one is 1 (`beyond-none` and `beyond-some` of proofs/MarksLaws.antt)
+-- "a mark beyond station n": bit n, counted from 0, or a higher one is 1 (`Beyond-none` and `Beyond-some`)
 unfoldable pub mark-beyond : ℕ → ℕ → Bool
 mark-beyond n marks = leb (2 ^ n) marks
 
 unfoldable pub marks-within : ℕ → ℕ → Verdict
 marks-within n marks = refused-if (mark-beyond n marks) MarkBeyond
-
--- cause 8, of one length: "a lent table, log, outcome, input or row not of its exact length"
-unfoldable pub exact-length : ℕ → ℕ → Verdict
-exact-length wanted found = refused-if (not (eqb found wanted)) Length
 
 -- causes 2 and 3
 unfoldable pub line-verdict : ℕ → ℕ → ℕ → Verdict
@@ -51,13 +47,16 @@ line-verdict n t T = station-count n or-else thresholds n t T
 -- causes 2 to 6
 unfoldable pub header-verdict : ℕ → ℕ → ℕ → ℕ → ℕ → ℕ → Verdict
 header-verdict n t T sender value marks =
-    station-count n
-    or-else thresholds n t T
+    line-verdict n t T
     or-else station-number n sender
     or-else bit value
     or-else marks-within n marks
 
--- A header that no cause refuses, in plain facts. `header-sound` and `header-accepts` of proofs/HeaderLaws.antt: it is accepted exactly then.
+-- cause 8, of one length: "a lent table, log, outcome, input or row not of its exact length"
+unfoldable pub exact-length : ℕ → ℕ → Verdict
+exact-length wanted found = refused-if (not (eqb found wanted)) Length
+
+-- a header that no cause refuses, in plain facts (`Header-sound` and `Header-accepts`: it is accepted exactly then)
 pub record Sound (n t T sender value marks : ℕ) : Type 0 where
   pub some : 1 ≤ n
   pub most : n ≤ most-stations

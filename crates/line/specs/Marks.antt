@@ -8,6 +8,6 @@ use Rattle.line.specs.Count.{count}
 unfoldable pub marked : ℕ → ℕ → Bool
 marked marks i = eqb (marks / 2 ^ i % 2) 1
 
--- "f counts the marked stations."
-unfoldable pub faults : ℕ → ℕ → ℕ
-faults n marks = count n (marked marks)
+-- f, "f counts the marked stations.": how many of the stations 0 to n - 1 are bad
+abbrev pub faults : ℕ → (ℕ → Bool) → ℕ
+faults n bad = count n bad

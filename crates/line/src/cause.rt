@@ -1,6 +1,6 @@
 // The causes of refusal, each with its number in document 01.
 ghost use mathlib.Core.Path.{_≡_};
-ghost use Rattle.line.specs.Cause.{number, code, refused-if, _or-else_};
+ghost use Rattle.line.specs.Cause.{number, code, Judged, refused-if, _or-else_};
 
 pub enum Cause {
     SheetForm,
@@ -50,7 +50,7 @@ impl Cause {
 impl Verdict {
     // Refused by the cause if the test holds.
     pub fn refused_if(test: bool, cause: Cause) -> Verdict
-        ensures { λ r. ⌜ r ≡ refused-if test cause ⌝ }
+        ensures { λ r. ⌜ Judged (refused-if test cause) r ⌝ }
     {
         if test {
             Verdict::Refused(cause)
@@ -71,7 +71,7 @@ impl Verdict {
 
     // This verdict's cause if it has one, otherwise the next verdict.
     pub fn or_else(self, next: Verdict) -> Verdict
-        ensures { λ r. ⌜ r ≡ self or-else next ⌝ }
+        ensures { λ r. ⌜ Judged (self or-else next) r ⌝ }
     {
         match self {
             Verdict::Accepted => next,

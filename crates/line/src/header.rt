@@ -1,5 +1,6 @@
 // The judgement of a header's numbers, causes 2 to 6, the lowest first; and of a length, cause 8.
 ghost use mathlib.Core.Path.{_≡_};
+ghost use Rattle.line.specs.Cause.{Judged};
 ghost use Rattle.line.specs.Header.{outside, exceeded, mark-beyond, station-count, thresholds, station-number, bit, marks-within, exact-length, line-verdict, header-verdict};
 use crate::Line;
 use crate::cause::Cause;
@@ -35,14 +36,14 @@ fn mark_beyond(n: u8, marks: u32) -> bool
 }
 
 // Cause 2.
-pub fn station_count(n: u8) -> Verdict
+fn station_count(n: u8) -> Verdict
     ensures { λ r. ⌜ r ≡ station-count n ⌝ }
 {
     Verdict::refused_if(outside(1, Line::STATIONS, n), Cause::StationCount)
 }
 
 // Cause 3.
-pub fn thresholds(n: u8, t: u8, upper: u8) -> Verdict
+fn thresholds(n: u8, t: u8, upper: u8) -> Verdict
     ensures { λ r. ⌜ r ≡ thresholds n t upper ⌝ }
 {
     Verdict::refused_if(exceeded(n, t, upper), Cause::Thresholds)
@@ -50,35 +51,35 @@ pub fn thresholds(n: u8, t: u8, upper: u8) -> Verdict
 
 // Cause 4, of the sender or the own station.
 pub fn station_number(n: u8, i: u8) -> Verdict
-    ensures { λ r. ⌜ r ≡ station-number n i ⌝ }
+    ensures { λ r. ⌜ Judged (station-number n i) r ⌝ }
 {
     Verdict::refused_if(outside(1, n, i), Cause::StationNumber)
 }
 
 // Cause 5, of one byte.
 pub fn bit(v: u8) -> Verdict
-    ensures { λ r. ⌜ r ≡ bit v ⌝ }
+    ensures { λ r. ⌜ Judged (bit v) r ⌝ }
 {
     Verdict::refused_if(1 < v, Cause::Value)
 }
 
 // Cause 6.
 pub fn marks_within(n: u8, marks: u32) -> Verdict
-    ensures { λ r. ⌜ r ≡ marks-within n marks ⌝ }
+    ensures { λ r. ⌜ Judged (marks-within n marks) r ⌝ }
 {
     Verdict::refused_if(mark_beyond(n, marks), Cause::MarkBeyond)
 }
 
 // Cause 8, of one length.
 pub fn exact_length(wanted: usize, found: usize) -> Verdict
-    ensures { λ r. ⌜ r ≡ exact-length wanted found ⌝ }
+    ensures { λ r. ⌜ Judged (exact-length wanted found) r ⌝ }
 {
     Verdict::refused_if(found != wanted, Cause::Length)
 }
 
 // Causes 2 and 3.
 pub fn line_verdict(line: Line) -> Verdict
-    ensures { λ r. ⌜ r ≡ line-verdict (line .n) (line .t) (line .upper) ⌝ }
+    ensures { λ r. ⌜ Judged (line-verdict (line .n) (line .t) (line .upper)) r ⌝ }
 {
     let a = station_count(line.n);
     let b = thresholds(line.n, line.t, line.upper);
@@ -87,12 +88,11 @@ pub fn line_verdict(line: Line) -> Verdict
 
 // Causes 2 to 6.
 pub fn header_verdict(line: Line, sender: u8, value: u8, marks: u32) -> Verdict
-    ensures { λ r. ⌜ r ≡ header-verdict (line .n) (line .t) (line .upper) sender value marks ⌝ }
+    ensures { λ r. ⌜ Judged (header-verdict (line .n) (line .t) (line .upper) sender value marks) r ⌝ }
 {
-    let a = station_count(line.n);
-    let b = thresholds(line.n, line.t, line.upper);
-    let c = station_number(line.n, sender);
-    let d = bit(value);
-    let e = marks_within(line.n, marks);
-    a.or_else(b.or_else(c.or_else(d.or_else(e))))
+    let a = line_verdict(line);
+    let b = station_number(line.n, sender);
+    let c = bit(value);
+    let d = marks_within(line.n, marks);
+    a.or_else(b.or_else(c.or_else(d)))
 }

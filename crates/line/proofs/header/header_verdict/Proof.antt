@@ -1,14 +1,12 @@
 -- `header::header_verdict` meets its contract.
 use borrow.Author.Needs.{needs}
 use Rattle.line.specs.Header.{header-verdict}
+use Rattle.line.proofs.HeaderLaws.{judged}
 use Rattle.line.proofs.header.header_verdict.Statement.{statement}
 use Rattle.line.proofs.header.header_verdict.Tie as tie
 
-station-count-requires : tie.Need-station-count-requires
-station-count-requires c κs = search needs
-
-thresholds-requires : tie.Need-thresholds-requires
-thresholds-requires c κs = search needs
+line-verdict-requires : tie.Need-line-verdict-requires
+line-verdict-requires c κs = search needs
 
 station-number-requires : tie.Need-station-number-requires
 station-number-requires c κs = search needs
@@ -28,24 +26,19 @@ or-else-requires-2 c κs = search needs
 or-else-requires-3 : tie.Need-or-else-requires-3
 or-else-requires-3 c κs = search needs
 
-or-else-requires-4 : tie.Need-or-else-requires-4
-or-else-requires-4 c κs = search needs
-
 returns : tie.Need-returns
 unfolding header-verdict
-returns c = cc
+returns c = judged (cc)
 
 pub header-verdict-spec : {M : Type 1} → statement M
 header-verdict-spec =
     tie.close
     (tie.spec
-    station-count-requires
-    thresholds-requires
+    line-verdict-requires
     station-number-requires
     bit-requires
     marks-within-requires
     or-else-requires
     or-else-requires-2
     or-else-requires-3
-    or-else-requires-4
     returns)

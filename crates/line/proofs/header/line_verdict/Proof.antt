@@ -1,6 +1,7 @@
 -- `header::line_verdict` meets its contract.
 use borrow.Author.Needs.{needs}
 use Rattle.line.specs.Header.{line-verdict}
+use Rattle.line.proofs.HeaderLaws.{judged}
 use Rattle.line.proofs.header.line_verdict.Statement.{statement}
 use Rattle.line.proofs.header.line_verdict.Tie as tie
 
@@ -15,7 +16,7 @@ or-else-requires c κs = search needs
 
 returns : tie.Need-returns
 unfolding line-verdict
-returns c = cc
+returns c = judged (cc)
 
 pub line-verdict-spec : {M : Type 1} → statement M
 line-verdict-spec =

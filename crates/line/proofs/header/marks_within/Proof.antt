@@ -1,6 +1,7 @@
 -- `header::marks_within` meets its contract.
 use borrow.Author.Needs.{needs}
 use Rattle.line.specs.Header.{marks-within}
+use Rattle.line.proofs.HeaderLaws.{judged}
 use Rattle.line.proofs.header.marks_within.Statement.{statement}
 use Rattle.line.proofs.header.marks_within.Tie as tie
 
@@ -12,7 +13,7 @@ refused-if-requires c κs = search needs
 
 returns : tie.Need-returns
 unfolding marks-within
-returns c = cc
+returns c = judged (cc)
 
 pub marks-within-spec : {M : Type 1} → statement M
 marks-within-spec = tie.close (tie.spec mark-beyond-requires refused-if-requires returns)

@@ -1,6 +1,7 @@
 -- `header::station_number` meets its contract.
 use borrow.Author.Needs.{needs}
 use Rattle.line.specs.Header.{station-number}
+use Rattle.line.proofs.HeaderLaws.{judged}
 use Rattle.line.proofs.header.station_number.Statement.{statement}
 use Rattle.line.proofs.header.station_number.Tie as tie
 
@@ -12,7 +13,7 @@ refused-if-requires c κs = search needs
 
 returns : tie.Need-returns
 unfolding station-number
-returns c = cc
+returns c = judged (cc)
 
 pub station-number-spec : {M : Type 1} → statement M
 station-number-spec = tie.close (tie.spec outside-requires refused-if-requires returns)

@@ -1,5 +1,6 @@
 -- `Verdict::or_else` meets its contract, case by case.
 use borrow.Author.Needs.{needs}
+use Rattle.line.proofs.HeaderLaws.{judged}
 use Rattle.line.proofs.cause.Verdict.or_else.Statement.{statement}
 use Rattle.line.proofs.cause.Verdict.or_else.Tie as tie
 
@@ -13,7 +14,7 @@ returns : tie.Need-returns
 returns c = search needs
 
 returns-2 : tie.Need-returns-2
-returns-2 c = rw (c .before .self .given .1)
+returns-2 c = judged (rw (c .before .self .given .1))
 
 pub or-else-spec : {M : Type 1} → statement M
 or-else-spec = tie.close (tie.spec enum-told enum-known-self returns returns-2)

@@ -1,0 +1,61 @@
+-- The statements that proofs/Theorems.antt proves, each under the same name in lower case.
+use Prim.Native.Nat.{ℕ, _+_, _-_, _*_, _≤_, _<_}
+use mathlib.Core.Path.{_≡_}
+use mathlib.Core.Bool.{Bool, true, false, not}
+use Rattle.line.specs.Count.{count}
+use Rattle.line.specs.Line.{most-stations, Fits, rounds, table-length, place, largest-table}
+use Rattle.line.specs.Marks.{marked, faults}
+use Rattle.line.specs.Header.{mark-beyond, header-verdict, Sound}
+use Rattle.line.specs.declared.cause.Verdict.the-variants.{Accepted}
+
+-- ---- f
+
+-- the f bad stations and the good ones make n: no mark beyond station n is counted
+abbrev pub Faults-and-good : Type 0
+Faults-and-good = (n : ℕ) (bad : ℕ → Bool) → faults n bad + count n (λ i. not (bad i)) ≡ n
+
+-- "f counts the marked stations.": where no mark stands beyond station n, f is the number of all bits that are 1
+abbrev pub Faults-are-marks : Type 0
+Faults-are-marks =
+    (n marks : ℕ) → n ≤ most-stations → mark-beyond n marks ≡ false → faults n (marked marks) ≡ count most-stations (marked marks)
+
+-- ---- places and tables
+
+-- "the byte for round r, from i, to j stands at ((r−1)·n + (i−1))·n + (j−1)", i and j from 1 as in the document
+abbrev pub Place-is : Type 0
+Place-is = (n r i j : ℕ) → place n r (i - 1) (j - 1) ≡ ((r - 1) * n + (i - 1)) * n + (j - 1)
+
+-- in step from there: the next receiver's byte is the next one, the next sender's n bytes further, the next round's n·n
+pub record PlaceSteps (n r i j : ℕ) : Type 0 where
+  pub first : place n 1 0 0 ≡ 0
+  pub next-receiver : place n r i (j + 1) ≡ place n r i j + 1
+  pub next-sender : place n r (i + 1) j ≡ place n r i j + n
+  pub next-round : 1 ≤ r → place n (r + 1) i j ≡ place n r i j + n * n
+
+abbrev pub Place-steps : Type 0
+Place-steps = (n r i j : ℕ) → PlaceSteps n r i j
+
+-- "The largest has 36,864 bytes.": no accepted line has a longer table, and one has it
+abbrev pub Table-bound : Type 0
+Table-bound = (n t T : ℕ) → n ≤ most-stations → Fits n t T → table-length n t ≤ largest-table
+
+abbrev pub Table-reached : Type 0
+Table-reached = Fits 32 10 10 × (table-length 32 10 ≡ largest-table)
+
+-- ---- the header
+
+-- "a mark beyond station n" is there exactly if some station from n on, counted from 0, is marked
+abbrev pub Beyond-none : Type 0
+Beyond-none = (n marks i : ℕ) → mark-beyond n marks ≡ false → n ≤ i → marked marks i ≡ false
+
+abbrev pub Beyond-some : Type 0
+Beyond-some = (n marks : ℕ) → mark-beyond n marks ≡ true → (i : ℕ) × (n ≤ i) × (marked marks i ≡ true)
+
+-- a header is accepted exactly if every number is as document 01 wants it
+abbrev pub Header-sound : Type 0
+Header-sound =
+    (n t T sender value marks : ℕ) → header-verdict n t T sender value marks ≡ Accepted → Sound n t T sender value marks
+
+abbrev pub Header-accepts : Type 0
+Header-accepts =
+    (n t T sender value marks : ℕ) → Sound n t T sender value marks → header-verdict n t T sender value marks ≡ Accepted
