@@ -9,13 +9,13 @@ use native.Mathlib.Numerals.{add-one}
 use native.Mathlib.Nat.{div-add-mod', div-lt-iff-lt-mul, mod-lt, eq-or-lt-of-le}
 use lib.ListN.{length, getD}
 use lib.Seq.{ext-getD}
-use Rattle.line.specs.Line.{Fits, rounds, place}
+use Rattle.line.specs.Line.{Fits, from-0, rounds, place}
 use Rattle.line.specs.Marks.{marked}
 use Rattle.line.proofs.CountLaws.{if-true}
 use Rattle.broadcast.specs.Exchange.{sends}
 use Rattle.broadcast.specs.Broadcast.{value-of, final-grade, final-flag, said, sent}
 use Rattle.broadcast.specs.Station.{State, running, done, ballot, result, at, after}
-use Rattle.broadcast.specs.Bytes.{setting, Run, setting-of, sender-of, log, outcomes, setup, column}
+use Rattle.broadcast.specs.Bytes.{setting, Run, setting-of, log, outcomes, setup, column}
 use Rattle.broadcast.specs.Guarantees.{Good}
 use Rattle.broadcast.specs.Theorems.{value-at, grade-at, flag-at, Follows, PutTogether, MakeRun}
 use Rattle.broadcast.proofs.ExchangeLaws.{good-sends}
@@ -44,7 +44,7 @@ same-bytes n R pos l l′ s s′ h = ext-getD 0 l l′ (s ∙ sym s′) each
         rw (place-back n k) at (h (k / n / n + 1) (k / n % n) (k % n) (omega arith) (omega arith) (mod-lt (k / n) pos) (mod-lt k pos))
 
 module _ (R : Run) (fits : Fits (R .n) (R .t) (R .T)) (low : 1 ≤ R .sender) (high : R .sender ≤ R .n) where
-  in-line : sender-of R < (setting-of R) .n
+  in-line : from-0 (R .sender) < (setting-of R) .n
   in-line = sender-inside R low high
 
   few : (setting-of R) .t < (setting-of R) .n
@@ -52,7 +52,7 @@ module _ (R : Run) (fits : Fits (R .n) (R .t) (R .T)) (low : 1 ≤ R .sender) (h
 
   -- what is sent in the run
   S-sent : ℕ → ℕ → ℕ → ℕ
-  S-sent = sent (setting-of R) (sender-of R) (R .value)
+  S-sent = sent (setting-of R) (from-0 (R .sender)) (R .value)
 
   -- bytes that have the run's in rounds 1 to m
   abbrev Agree : List ℕ → ℕ → Type 0
@@ -64,23 +64,23 @@ module _ (R : Run) (fits : Fits (R .n) (R .t) (R .T)) (low : 1 ≤ R .sender) (h
     its-state m = after (setup R j) v (column (R .n) bytes j) m
 
     knows : (m : ℕ) → m ≤ rounds (R .t) → Agree bytes m
-        → Knows (setting-of R) (sender-of R) (R .value) in-line few j v (suc m) (its-state m)
+        → Knows (setting-of R) (from-0 (R .sender)) (R .value) in-line few j v (suc m) (its-state m)
     unfolding its-state setup setting S-sent
     knows m l agree =
-        knows-after (setting-of R) (sender-of R) (R .value) in-line few j v (column (R .n) bytes j) m l
+        knows-after (setting-of R) (from-0 (R .sender)) (R .value) in-line few j v (column (R .n) bytes j) m l
         (λ r a b i h. column-at (R .n) bytes j r i h ∙ agree r i j a b h inside)
 
-    is-told : (m : ℕ) → m ≤ rounds (R .t) → Agree bytes m → (j ≡ sender-of R → v ≡ R .value)
-        → ballot (setup R j) (its-state m) ≡ said (setting-of R) (sender-of R) (R .value) (suc m) j
+    is-told : (m : ℕ) → m ≤ rounds (R .t) → Agree bytes m → (j ≡ from-0 (R .sender) → v ≡ R .value)
+        → ballot (setup R j) (its-state m) ≡ said (setting-of R) (from-0 (R .sender)) (R .value) (suc m) j
     unfolding setup setting
     is-told m l agree opens =
-        tells (setting-of R) (sender-of R) (R .value) in-line few j v (suc m) (omega arith) opens (its-state m)
+        tells (setting-of R) (from-0 (R .sender)) (R .value) in-line few j v (suc m) (omega arith) opens (its-state m)
         (knows m l agree)
 
     runs : (m : ℕ) → m < rounds (R .t) → Agree bytes m → result (setup R j) (its-state m) ≡ running (suc m)
     unfolding setup setting
     runs m l agree =
-        is-running (setting-of R) (sender-of R) (R .value) in-line few j v (suc m) (its-state m) l
+        is-running (setting-of R) (from-0 (R .sender)) (R .value) in-line few j v (suc m) (its-state m) l
         (knows m (omega arith) agree)
 
     ends : marked (R .marks) j ≡ false → Agree bytes (rounds (R .t))
@@ -89,14 +89,14 @@ module _ (R : Run) (fits : Fits (R .n) (R .t) (R .T)) (low : 1 ≤ R .sender) (h
     unfolding setup setting outcomes
     ends good agree =
         let S = setting-of R in
-        let y = value-of S (sender-of R) (R .value) in
-        let g = final-grade S (sender-of R) (R .value) in
-        let f = final-flag S (sender-of R) (R .value) in
-        is-done S (sender-of R) (R .value) in-line few j v (its-state (rounds (R .t)))
+        let y = value-of S (from-0 (R .sender)) (R .value) in
+        let g = final-grade S (from-0 (R .sender)) (R .value) in
+        let f = final-flag S (from-0 (R .sender)) (R .value) in
+        is-done S (from-0 (R .sender)) (R .value) in-line few j v (its-state (rounds (R .t)))
         (knows (rounds (R .t)) (omega arith) agree)
         ∙ rw (good-value S y g f j (inside, good), good-grade S y g f j (inside, good), good-flag S y g f j (inside, good))
 
-  good-sent : (r i j : ℕ) → marked (R .marks) i ≡ false → S-sent r i j ≡ said (setting-of R) (sender-of R) (R .value) r i
+  good-sent : (r i j : ℕ) → marked (R .marks) i ≡ false → S-sent r i j ≡ said (setting-of R) (from-0 (R .sender)) (R .value) r i
   unfolding S-sent sent setting
   good-sent r i j g = good-sends (setting-of R) r i j _ g
 
@@ -110,7 +110,7 @@ module _ (R : Run) (fits : Fits (R .n) (R .t) (R .T)) (low : 1 ≤ R .sender) (h
 
   -- ---- the first sentence
 
-  pub follows : (j v : ℕ) → Good (R .n) (marked (R .marks)) j → (j ≡ sender-of R → v ≡ R .value) → Follows R j v
+  pub follows : (j v : ℕ) → Good (R .n) (marked (R .marks)) j → (j ≡ from-0 (R .sender) → v ≡ R .value) → Follows R j v
   unfolding its-state
   follows j v g opens = record {
     running-before = λ m l. rw (add-one m) (runs j v (g .0) (log R) m l (log-agrees m (omega arith)));
@@ -123,7 +123,7 @@ module _ (R : Run) (fits : Fits (R .n) (R .t) (R .T)) (low : 1 ≤ R .sender) (h
 
   -- ---- the second sentence
 
-  module _ (v : ℕ → ℕ) (opens : v (sender-of R) ≡ R .value) where
+  module _ (v : ℕ → ℕ) (opens : v (from-0 (R .sender)) ≡ R .value) where
     -- bytes put together agree with the run in one round more
     agrees-next : (bytes : List ℕ) → PutTogether R v bytes → (m : ℕ) → m < rounds (R .t) → Agree bytes m
         → (i j : ℕ) → i < R .n → j < R .n → (b : Bool) → marked (R .marks) i ≡ b → at bytes (place (R .n) (suc m) i j) ≡ S-sent (suc m) i j

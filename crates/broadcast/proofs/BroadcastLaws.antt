@@ -13,22 +13,22 @@ use Rattle.line.proofs.BallotLaws.{read-sender-bit, read-sender-keeps}
 use Rattle.broadcast.specs.Exchange.{Setting, sends, flag-of}
 use Rattle.broadcast.specs.Broadcast.{obey, phases, first-round, x-after, y-after, grade-after, value-of, final-grade, final-flag}
 use Rattle.broadcast.specs.Guarantees.{Good, GradedConsensus, TwoThreshold}
-use Rattle.broadcast.proofs.TallyLaws.{flag-means, obey-means, obey-bit, obey-king}
+use Rattle.broadcast.proofs.TallyLaws.{flag-means, flag-bit, obey-means, obey-bit, obey-king}
 use Rattle.broadcast.proofs.ExchangeLaws.{faults-of, All, good-sends, y-is-bit, graded-consensus}
 
-module _ (S : Setting) (fits : Fits (S .n) (S .t) (S .T)) (sender value : ℕ) where
+module _ (S : Setting) (fits : Fits (S .n) (S .t) (S .T)) (sender-from-0 value : ℕ) where
   X : ℕ → ℕ → ℕ
-  X = x-after S sender value
+  X = x-after S sender-from-0 value
 
   Y : ℕ → ℕ → ℕ
-  Y = y-after S sender value
+  Y = y-after S sender-from-0 value
 
   G : ℕ → ℕ → ℕ
-  G = grade-after S sender value
+  G = grade-after S sender-from-0 value
 
   Y-bit : (p j : ℕ) → Y p j ≤ 1
   unfolding Y y-after
-  Y-bit p j = y-is-bit S (first-round p) (x-after S sender value p) j
+  Y-bit p j = y-is-bit S (first-round p) (x-after S sender-from-0 value p) j
 
   -- what a phase does
   phase : (p j : ℕ) → X (suc p) j ≡ obey (G p j) (Y p j) (sends S (first-round p + 2) p j (Y p p))
@@ -74,23 +74,23 @@ module _ (S : Setting) (fits : Fits (S .n) (S .t) (S .T)) (sender value : ℕ) w
 
   -- ---- a good sender's value is taken in round 1 and kept
 
-  started : value ≤ 1 → S .bad sender ≡ false → All S (X 0) value
+  started : value ≤ 1 → S .bad sender-from-0 ≡ false → All S (X 0) value
   unfolding X x-after
-  started bit good j g = ap read-sender (good-sends S 1 sender j value good) ∙ read-sender-keeps value bit
+  started bit good j g = ap read-sender (good-sends S 1 sender-from-0 j value good) ∙ read-sender-keeps value bit
 
   -- ---- the last exchange
 
   decides : ℕ → ℕ
-  decides = value-of S sender value
+  decides = value-of S sender-from-0 value
 
   flags : ℕ → ℕ
-  flags = final-flag S sender value
+  flags = final-flag S sender-from-0 value
 
-  last : GradedConsensus (S .n) (S .t) (S .T) (S .bad) (X (phases (S .t))) decides (final-grade S sender value)
+  last : GradedConsensus (S .n) (S .t) (S .T) (S .bad) (X (phases (S .t))) decides (final-grade S sender-from-0 value)
   unfolding decides value-of final-grade Y G
   last = exchange (phases (S .t))
 
-  flag-is : (j : ℕ) → flags j ≡ flag-of (final-grade S sender value j)
+  flag-is : (j : ℕ) → flags j ≡ flag-of (final-grade S sender-from-0 value j)
   unfolding flags final-flag
   flag-is j = refl
 
@@ -103,13 +103,14 @@ module _ (S : Setting) (fits : Fits (S .n) (S .t) (S .T)) (sender value : ℕ) w
       let (v, all) = settled f in flag-is i ∙ flag-means _ .1 (le-of-eq (sym (last .validity-at-t f v all i g .1)))
 
   -- f at most T: a good station without a flag has grade 2, which binds all
-  bound-by : faults-of S ≤ S .T → (k : ℕ) → Good (S .n) (S .bad) k → 2 ≤ final-grade S sender value k → All S decides (decides k)
+  bound-by : faults-of S ≤ S .T → (k : ℕ) → Good (S .n) (S .bad) k → 2 ≤ final-grade S sender-from-0 value k → All S decides (decides k)
   bound-by f k g h = last .detection f k g (le-antisymm (last .range k g .1) h)
 
   pub two-threshold : value ≤ 1
-      → TwoThreshold (S .n) (S .t) (S .T) (S .bad) sender value (value-of S sender value) (final-flag S sender value)
+      → TwoThreshold (S .n) (S .t) (S .T) (S .bad) sender-from-0 value (value-of S sender-from-0 value) (final-flag S sender-from-0 value)
   unfolding decides flags
   two-threshold bit = record {
+    range = λ i gi. (last .range i gi .0, rw (flag-is i) (flag-bit _));
     agreement = λ f i j gi gj. let (v, all) = agreed f in all i gi ∙ sym (all j gj);
     no-flag = quiet;
     extended-validity = λ f gs i gi.

@@ -7,16 +7,16 @@ use native.Mathlib.Omega.{arith}
 use lib.Dec.{eqb}
 use lib.ListN.{length, getD}
 use Rattle.line.specs.Count.{if_then_else_}
-use Rattle.line.specs.Line.{Fits, rounds, table-length, outcomes-length, place}
+use Rattle.line.specs.Line.{Fits, from-0, rounds, table-length, outcomes-length, place}
 use Rattle.line.specs.Marks.{marked}
 use Rattle.line.proofs.CountLaws.{if-true, if-false}
 use Rattle.line.proofs.LineLaws.{place-below, place-round, place-from, place-to}
 use Rattle.broadcast.specs.Exchange.{Setting, y, grade, flag-of}
 use Rattle.broadcast.specs.Broadcast.{phases, value-of, final-grade, final-flag, y-after, grade-after, first-round, x-after, sent}
 use Rattle.broadcast.specs.Station.{at}
-use Rattle.broadcast.specs.Bytes.{tabulate, setting, outcome-byte, outcome-bytes, exchange-outcomes, Run, setting-of, sender-of, log-byte, log, outcomes, column}
+use Rattle.broadcast.specs.Bytes.{tabulate, setting, outcome-byte, outcome-bytes, exchange-outcomes, Run, setting-of, log-byte, log, outcomes, column}
 use Rattle.broadcast.specs.Guarantees.{Good, GradedConsensus, TwoThreshold}
-use Rattle.broadcast.specs.Theorems.{value-at, grade-at, flag-at, Definition-6-alone, OutcomeBytes, Outcome-bytes, Demand-3}
+use Rattle.broadcast.specs.Theorems.{value-at, grade-at, flag-at, Definition-6-alone, OutcomeBytes, Exchange-bytes, Outcome-bytes, Demand-3}
 use Rattle.broadcast.proofs.TallyLaws.{grade-bound}
 use Rattle.broadcast.proofs.ExchangeLaws.{y-is-bit, graded-consensus}
 use Rattle.broadcast.proofs.BroadcastLaws.{two-threshold}
@@ -46,7 +46,7 @@ tabulate-same (suc m) f g h =
 
 -- ---- a run's sender, and its kings, are stations
 
-pub sender-inside : (R : Run) → 1 ≤ R .sender → R .sender ≤ R .n → sender-of R < (setting-of R) .n
+pub sender-inside : (R : Run) → 1 ≤ R .sender → R .sender ≤ R .n → from-0 (R .sender) < (setting-of R) .n
 unfolding setting
 sender-inside R low high = omega arith
 
@@ -61,7 +61,7 @@ unfolding log
 log-size R = length-tabulate _ _
 
 pub log-at : (R : Run) (r i j : ℕ) → 1 ≤ r → r ≤ rounds (R .t) → i < R .n → j < R .n
-    → at (log R) (place (R .n) r i j) ≡ sent (setting-of R) (sender-of R) (R .value) r i j
+    → at (log R) (place (R .n) r i j) ≡ sent (setting-of R) (from-0 (R .sender)) (R .value) r i j
 unfolding log log-byte
 log-at R r i j h l hi hj =
     at-tabulate _ _ _ (place-below (R .n) r i j h hi hj (rounds (R .t)) l)
@@ -148,6 +148,7 @@ same-two-threshold : (n t T : ℕ) (bad : ℕ → Bool) (s v : ℕ) (D F D′ F�
     → ((i : ℕ) → Good n bad i → D′ i ≡ D i) → ((i : ℕ) → Good n bad i → F′ i ≡ F i)
     → TwoThreshold n t T bad s v D F → TwoThreshold n t T bad s v D′ F′
 same-two-threshold n t T bad s v D F D′ F′ d f P = record {
+  range = λ i gi. rw (d i gi, f i gi) (P .range i gi);
   agreement = λ k i j gi gj. rw (d i gi, d j gj) (P .agreement k i j gi gj);
   no-flag = λ k i gi. rw (f i gi) (P .no-flag k i gi);
   extended-validity = λ k gs i gi. rw (d i gi) (P .extended-validity k gs i gi);
@@ -170,14 +171,20 @@ graded-consensus-alone n t T marks inputs table fits bits =
 pub two-threshold-bytes : Demand-3
 unfolding outcomes setting
 two-threshold-bytes R fits bit =
-    same-two-threshold (R .n) (R .t) (R .T) (marked (R .marks)) (sender-of R) (R .value) _ _ _ _
+    same-two-threshold (R .n) (R .t) (R .T) (marked (R .marks)) (from-0 (R .sender)) (R .value) _ _ _ _
     (good-value (setting-of R) _ _ _) (good-flag (setting-of R) _ _ _)
-    (two-threshold (setting-of R) fits (sender-of R) (R .value) bit)
+    (two-threshold (setting-of R) fits (from-0 (R .sender)) (R .value) bit)
+
+pub exchange-ranges : Exchange-bytes
+unfolding exchange-outcomes setting grade
+exchange-ranges n t T marks inputs table =
+    let S = setting n t T marks table in
+    outcome-ranges S _ _ _ (λ i. y-is-bit S 1 (at inputs) i) (λ i. grade-bound n t T _) (λ i. refl)
 
 pub outcome-ranges-of : Outcome-bytes
 unfolding outcomes setting phases value-of final-grade final-flag y-after grade-after grade
 outcome-ranges-of R =
     let S = setting-of R in
     let p = R .t + 1 in
-    let x = x-after S (sender-of R) (R .value) p in
+    let x = x-after S (from-0 (R .sender)) (R .value) p in
     outcome-ranges S _ _ _ (λ i. y-is-bit S (first-round p) x i) (λ i. grade-bound (R .n) (R .t) (R .T) _) (λ i. refl)

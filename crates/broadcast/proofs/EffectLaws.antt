@@ -1,21 +1,21 @@
 -- What has no effect: the table's bytes for good senders, those of a bad station in a round in which it should not speak, those to bad
 -- stations, and a bad station's input. Assumes nothing.
-use Prim.Native.Nat.{ℕ, zero, suc, _+_, _≤_, _<_}
+use Prim.Native.Nat.{ℕ, zero, suc, _+_, _-_, _*_, _≤_, _<_}
 use mathlib.Core.Path.{_≡_, refl, sym, ap, _∙_}
 use mathlib.Core.Bool.{Bool, true, false}
 use mathlib.Core.List.{List}
 use native.Mathlib.Omega.{arith}
-use borrow.Author.Tests.{eq-eqb}
+use borrow.Author.Tests.{eq-eqb, eqb-true}
 use Rattle.line.specs.Count.{if_then_else_}
-use Rattle.line.specs.Line.{Fits, rounds, place}
+use Rattle.line.specs.Line.{Fits, from-0, rounds, place}
 use Rattle.line.specs.Marks.{marked}
 use Rattle.line.specs.Ballot.{read-sender}
 use Rattle.broadcast.specs.Exchange.{Setting, sends, grade-of, seconds, first-row, z, second-row, y, grade, flag-of}
 use Rattle.broadcast.specs.Broadcast.{phases, first-round, x-after, z-after, y-after, grade-after, value-of, final-grade, final-flag, part, speaks, spoken, said, sent}
 use Rattle.broadcast.specs.Station.{at}
-use Rattle.broadcast.specs.Bytes.{setting, exchange-outcomes, Run, setting-of, sender-of, log, outcomes}
+use Rattle.broadcast.specs.Bytes.{setting, exchange-outcomes, Run, setting-of, log, outcomes}
 use Rattle.broadcast.specs.Guarantees.{Good}
-use Rattle.broadcast.specs.Theorems.{Exchange-effect, with-table, SameEffect}
+use Rattle.broadcast.specs.Theorems.{Exchange-effect, with-table, SameToGood, SameWhereSpoken, SameEffect}
 use Rattle.broadcast.proofs.RowLaws.{seconds-same, z-same, y-same}
 use Rattle.broadcast.proofs.PartLaws.{part-sender, part-first, part-second, part-king, first-is, by-parts}
 use Rattle.broadcast.proofs.ExchangeLaws.{good-sends}
@@ -73,13 +73,13 @@ module _ (S : Setting) (table : ℕ → ℕ → ℕ → ℕ) where
 
   -- ---- the broadcast
 
-  module _ (sender value : ℕ) (in-line : sender < S .n) (few : S .t < S .n)
-      (tables : (r i : ℕ) → 1 ≤ r → r ≤ rounds (S .t) → i < S .n → speaks sender (part r) i ≡ true → Same r i) where
+  module _ (sender-from-0 value : ℕ) (in-line : sender-from-0 < S .n) (few : S .t < S .n)
+      (tables : (r i : ℕ) → 1 ≤ r → r ≤ rounds (S .t) → i < S .n → speaks sender-from-0 (part r) i ≡ true → Same r i) where
     X : ℕ → ℕ → ℕ
-    X = x-after S sender value
+    X = x-after S sender-from-0 value
 
     X′ : ℕ → ℕ → ℕ
-    X′ = x-after S′ sender value
+    X′ = x-after S′ sender-from-0 value
 
     one : (p : ℕ) → p ≤ S .t + 1 → (i : ℕ) → i < S .n → Same (first-round p) i
     unfolding speaks
@@ -98,8 +98,8 @@ module _ (S : Setting) (table : ℕ → ℕ → ℕ → ℕ) where
     unfolding X X′ x-after speaks
     same-x zero h j g =
         ap read-sender
-        (sends-same 1 sender j value value g
-        (tables 1 sender (omega arith) (omega arith) in-line (rw part-sender (eq-eqb sender sender refl)))
+        (sends-same 1 sender-from-0 j value value g
+        (tables 1 sender-from-0 (omega arith) (omega arith) in-line (rw part-sender (eq-eqb sender-from-0 sender-from-0 refl)))
         (λ _. refl))
     same-x (suc p) h j g =
         let ih = same-x p (omega arith) in
@@ -109,21 +109,21 @@ module _ (S : Setting) (table : ℕ → ℕ → ℕ → ℕ) where
         let king = sends-same (r + 2) p j _ _ g (three p (omega arith)) (λ q. same-y r (X p) (X′ p) a b ih p (omega arith, q)) in
         rw (same-grade r (X p) (X′ p) a b ih j g, same-y r (X p) (X′ p) a b ih j g, king)
 
-    same-z-after : (p : ℕ) → p ≤ S .t + 1 → SameGood S (z-after S sender value p) (z-after S′ sender value p)
+    same-z-after : (p : ℕ) → p ≤ S .t + 1 → SameGood S (z-after S sender-from-0 value p) (z-after S′ sender-from-0 value p)
     unfolding z-after X X′
     same-z-after p h = same-z (first-round p) (X p) (X′ p) (one p h) (two p h) (same-x p h)
 
-    same-y-after : (p : ℕ) → p ≤ S .t + 1 → SameGood S (y-after S sender value p) (y-after S′ sender value p)
+    same-y-after : (p : ℕ) → p ≤ S .t + 1 → SameGood S (y-after S sender-from-0 value p) (y-after S′ sender-from-0 value p)
     unfolding y-after X X′
     same-y-after p h = same-y (first-round p) (X p) (X′ p) (one p h) (two p h) (same-x p h)
 
-    same-grade-after : (p : ℕ) → p ≤ S .t + 1 → SameGood S (grade-after S sender value p) (grade-after S′ sender value p)
+    same-grade-after : (p : ℕ) → p ≤ S .t + 1 → SameGood S (grade-after S sender-from-0 value p) (grade-after S′ sender-from-0 value p)
     unfolding grade-after X X′
     same-grade-after p h = same-grade (first-round p) (X p) (X′ p) (one p h) (two p h) (same-x p h)
 
     -- every good station says the same in every round
     abbrev SaidSame : ℕ → Type 0
-    SaidSame r = r ≤ rounds (S .t) → SameGood S (said S sender value r) (said S′ sender value r)
+    SaidSame r = r ≤ rounds (S .t) → SameGood S (said S sender-from-0 value r) (said S′ sender-from-0 value r)
 
     said-same : (r : ℕ) → 1 ≤ r → SaidSame r
     unfolding said speaks spoken X X′
@@ -150,24 +150,44 @@ same-exchange n t T marks inputs inputs′ table table′ same agree =
     outcomes-same S (retabled S tab) _ _ _ _ _ _ refl (λ i. refl) (λ i g. (sy i g, sg i g, ap flag-of (sg i g)))
 
 module _ (R : Run) (table : List ℕ) (fits : Fits (R .n) (R .t) (R .T)) (low : 1 ≤ R .sender) (high : R .sender ≤ R .n)
-    (agree : (r i j : ℕ) → 1 ≤ r → r ≤ rounds (R .t) → i < R .n → marked (R .marks) i ≡ true → speaks (sender-of R) (part r) i ≡ true
-    → Good (R .n) (marked (R .marks)) j → at (R .table) (place (R .n) r i j) ≡ at table (place (R .n) r i j)) where
+    (agree : (i : ℕ) → i < R .n → marked (R .marks) i ≡ true → SameWhereSpoken R table i) where
   R′ : Run
   R′ = with-table R table
 
   tab : ℕ → ℕ → ℕ → ℕ
   tab r i j = at table (place (R .n) r i j)
 
-  in-line : sender-of R < (setting-of R) .n
+  in-line : from-0 (R .sender) < (setting-of R) .n
   in-line = sender-inside R low high
 
   few : (setting-of R) .t < (setting-of R) .n
   few = kings-inside R fits
 
-  tables : (r i : ℕ) → 1 ≤ r → r ≤ rounds ((setting-of R) .t) → i < (setting-of R) .n → speaks (sender-of R) (part r) i ≡ true
+  -- where a marked station should speak, by the parts of a broadcast
+  abbrev Agree : ℕ → Type 0
+  Agree r = r ≤ rounds (R .t) → (i : ℕ) → i < R .n → marked (R .marks) i ≡ true → speaks (from-0 (R .sender)) (part r) i ≡ true
+      → SameToGood R table r i
+
+  agree-in : (r : ℕ) → 1 ≤ r → Agree r
+  unfolding speaks
+  agree-in =
+      by-parts Agree
+      (λ h i l m s. agree i l m .sender (omega (arith, eqb-true i (from-0 (R .sender)) (rw part-sender at s))))
+      (λ p h i l m s.
+      let q : 3 * (p + 1) - 1 ≡ first-round p = omega (arith, first-is p) in
+      rw q at (agree i l m .first (p + 1) (omega arith) (omega (arith, first-is p))))
+      (λ p h i l m s.
+      let q : 3 * (p + 1) ≡ first-round p + 1 = omega (arith, first-is p) in
+      rw q at (agree i l m .second (p + 1) (omega arith) (omega (arith, first-is p))))
+      (λ p h i l m s.
+      let q : 3 * (p + 1) + 1 ≡ first-round p + 2 = omega (arith, first-is p) in
+      let e : i ≡ p = eqb-true i p (rw (part-king p) at s) in
+      rw q at (agree i l m .king (p + 1) (omega arith) (omega (arith, first-is p)) (omega arith)))
+
+  tables : (r i : ℕ) → 1 ≤ r → r ≤ rounds ((setting-of R) .t) → i < (setting-of R) .n → speaks (from-0 (R .sender)) (part r) i ≡ true
       → Same (setting-of R) tab r i
   unfolding setting tab
-  tables r i a b l s m j g = agree r i j a b l m s g
+  tables r i a b l s m j g = agree-in r a b i l m s j g
 
   same-ballots : (r i j : ℕ) → 1 ≤ r → r ≤ rounds (R .t) → Good (R .n) (marked (R .marks)) i → j < R .n
       → at (log R) (place (R .n) r i j) ≡ at (log R′) (place (R .n) r i j)
@@ -175,7 +195,7 @@ module _ (R : Run) (table : List ℕ) (fits : Fits (R .n) (R .t) (R .T)) (low : 
   same-ballots r i j a b g h =
       log-at R r i j a b (g .0) h
       ∙ good-sends (setting-of R) r i j _ (g .1)
-      ∙ said-same (setting-of R) tab (sender-of R) (R .value) in-line few tables r a b i g
+      ∙ said-same (setting-of R) tab (from-0 (R .sender)) (R .value) in-line few tables r a b i g
       ∙ sym (good-sends (setting-of R′) r i j _ (g .1))
       ∙ sym (log-at R′ r i j a b (g .0) h)
 
@@ -184,8 +204,8 @@ module _ (R : Run) (table : List ℕ) (fits : Fits (R .n) (R .t) (R .T)) (low : 
   same-results =
       let S = setting-of R in
       let p = R .t + 1 in
-      let sy = same-y-after S tab (sender-of R) (R .value) in-line few tables p (omega arith) in
-      let sg = same-grade-after S tab (sender-of R) (R .value) in-line few tables p (omega arith) in
+      let sy = same-y-after S tab (from-0 (R .sender)) (R .value) in-line few tables p (omega arith) in
+      let sg = same-grade-after S tab (from-0 (R .sender)) (R .value) in-line few tables p (omega arith) in
       outcomes-same S (setting-of R′) _ _ _ _ _ _ refl (λ i. refl) (λ i g. (sy i g, sg i g, ap flag-of (sg i g)))
 
   pub same-effect : SameEffect R (with-table R table)

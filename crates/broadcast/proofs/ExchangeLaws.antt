@@ -10,6 +10,7 @@ use lib.Dec.{eqb}
 use borrow.Author.Tests.{eqb-true, eq-eqb, not-true}
 use Rattle.line.specs.Count.{count}
 use Rattle.line.specs.Line.{Fits}
+use Rattle.line.specs.Marks.{faults}
 use Rattle.line.proofs.CountLaws.{if-false, count-none, count-not}
 use Rattle.broadcast.specs.Exchange.{Setting, firsts, seconds, sends, first-row, z, second-row, y, grade}
 use Rattle.broadcast.specs.Guarantees.{Good, GradedConsensus}
@@ -17,7 +18,7 @@ use Rattle.broadcast.proofs.TallyLaws.{firsts-low, firsts-apart, second
 
 -- f, the number of bad stations
 abbrev pub faults-of : Setting → ℕ
-faults-of S = count (S .n) (S .bad)
+faults-of S = faults (S .n) (S .bad)
 
 -- every good station has v
 abbrev pub All : Setting → (ℕ → ℕ) → ℕ → Type 0

@@ -4,6 +4,7 @@ use mathlib.Core.Path.{_≡_, refl}
 use native.Mathlib.Omega.{arith}
 use borrow.Author.Tests.{ne-eqb}
 use Rattle.broadcast.specs.Broadcast.{from-sender, first-of, second-of, from-king, part, first-round}
+use Rattle.broadcast.specs.Theorems.{PartByRounds}
 
 pub part-sender : part 1 ≡ from-sender
 unfolding part
@@ -52,3 +53,22 @@ by-parts P one first second king (suc (suc m)) h = go (m / 3) (m % 3) (omega ari
     go p (suc zero) e l = let q : 3 * (p + 1) - 1 + 1 ≡ suc (suc m) = omega arith in rw q at (second p)
     go p (suc (suc zero)) e l = let q : 3 * (p + 1) - 1 + 2 ≡ suc (suc m) = omega arith in rw q at (king p)
     go p (suc (suc (suc d))) e l = absurd (omega arith)
+
+-- ---- in the document's rounds
+
+pub phase-first : (p : ℕ) → 1 ≤ p → 3 * p - 1 ≡ first-round (p - 1)
+phase-first p h = omega (arith, first-is (p - 1))
+
+pub phase-second : (p : ℕ) → 1 ≤ p → 3 * p ≡ first-round (p - 1) + 1
+phase-second p h = omega (arith, first-is (p - 1))
+
+pub phase-king : (p : ℕ) → 1 ≤ p → 3 * p + 1 ≡ first-round (p - 1) + 2
+phase-king p h = omega (arith, first-is (p - 1))
+
+pub part-by-rounds : (p : ℕ) → PartByRounds p
+part-by-rounds p = record {
+  sender = part-sender;
+  first = λ h. rw (phase-first p h) (part-first (p - 1));
+  second = λ h. rw (phase-second p h) (part-second (p - 1));
+  king = λ h. rw (phase-king p h) (part-king (p - 1));
+}

@@ -35,7 +35,7 @@ module _ (r : ℕ) where
 
 -- the ballot in each part
 module _ (c : Setup) (s : State) where
-  pub ballot-sender : part (s .round) ≡ from-sender → ballot c s ≡ (if eqb (c .own) (c .sender) then s .value else silence)
+  pub ballot-sender : part (s .round) ≡ from-sender → ballot c s ≡ (if eqb (c .own-from-0) (c .sender-from-0) then s .value else silence)
   unfolding ballot speaks held
   ballot-sender e = rw e
 
@@ -47,7 +47,7 @@ module _ (c : Setup) (s : State) where
   unfolding ballot speaks held
   ballot-second e = rw e
 
-  pub ballot-king : {p : ℕ} → part (s .round) ≡ from-king p → ballot c s ≡ (if eqb (c .own) p then s .value else silence)
+  pub ballot-king : {p : ℕ} → part (s .round) ≡ from-king p → ballot c s ≡ (if eqb (c .own-from-0) p then s .value else silence)
   unfolding ballot speaks held
   ballot-king e = rw e
 
@@ -65,7 +65,7 @@ pub record InRange (s : State) : Type 0 where
 taken-range : (c : Setup) (s : State) (row : Row) → InRange s → (q : Part) → InRange (taken c s row q)
 unfolding taken next
 taken-range c s row h from-sender =
-    record { value-bit = read-sender-bit (row (c .sender)); z-high = h .z-high; grade-high = h .grade-high }
+    record { value-bit = read-sender-bit (row (c .sender-from-0)); z-high = h .z-high; grade-high = h .grade-high }
 taken-range c s row h (first-of p) =
     record { value-bit = h .value-bit; z-high = z-bound (c .n) (c .T) (s .value) row (h .value-bit); grade-high = h .grade-high }
 taken-range c s row h (second-of p) =
@@ -111,10 +111,10 @@ done-after c v rows = record {
 
 -- ---- after any rows: the value it was opened with is of no effect unless it is the sender's
 
-module _ (c : Setup) (other : c .own ≢ c .sender) (rows : ℕ → List ℕ) where
+module _ (c : Setup) (other : c .own-from-0 ≢ c .sender-from-0) (rows : ℕ → List ℕ) where
   silent : (v : ℕ) → ballot c (after c v rows zero) ≡ silence
   unfolding after opened
-  silent v = ballot-sender c (opened v) (is-sender 1 refl) ∙ rw (ne-eqb (c .own) (c .sender) other)
+  silent v = ballot-sender c (opened v) (is-sender 1 refl) ∙ rw (ne-eqb (c .own-from-0) (c .sender-from-0) other)
 
   module _ (v w : ℕ) where
     same-state : (m : ℕ) → after c v rows (suc m) ≡ after c w rows (suc m)
@@ -130,7 +130,7 @@ module _ (c : Setup) (other : c .own ≢ c .sender) (rows : ℕ → List ℕ) wh
     same-result zero = done-after c v rows .running-before 0 (omega arith) ∙ sym (done-after c w rows .running-before 0 (omega arith))
     same-result (suc m) = ap (result c) (same-state m)
 
-pub value-without-effect : (c : Setup) → c .own ≢ c .sender → (v w : ℕ) (rows : ℕ → List ℕ) → ValueWithoutEffect c v w rows
+pub value-without-effect : (c : Setup) → c .own-from-0 ≢ c .sender-from-0 → (v w : ℕ) (rows : ℕ → List ℕ) → ValueWithoutEffect c v w rows
 value-without-effect c h v w rows = record {
   silent-at-first = (silent c h rows v, silent c h rows w);
   states = same-state c h rows v w;

@@ -20,16 +20,16 @@ use Rattle.broadcast.proofs.SaidLaws.{said-sender, said-first, said-sec
 
 -- ---- station j of a run, opened with v
 
-module _ (S : Setting) (sender value : ℕ) (in-line : sender < S .n) (few : S .t < S .n) (j v : ℕ) where
+module _ (S : Setting) (sender-from-0 value : ℕ) (in-line : sender-from-0 < S .n) (few : S .t < S .n) (j v : ℕ) where
   abbrev pub its-setup : Setup
-  its-setup = record { n = S .n; t = S .t; T = S .T; sender = sender; own = j }
+  its-setup = record { n = S .n; t = S .t; T = S .T; sender-from-0 = sender-from-0; own-from-0 = j }
 
   -- what the station holds in a part
   unfoldable pub Holds : Part → State → Type 0
   Holds from-sender s = s .value ≡ v
-  Holds (first-of p) s = s .value ≡ x-after S sender value p j
-  Holds (second-of p) s = (s .value ≡ x-after S sender value p j) × (s .z ≡ z-after S sender value p j)
-  Holds (from-king p) s = (s .value ≡ y-after S sender value p j) × (s .grade ≡ grade-after S sender value p j)
+  Holds (first-of p) s = s .value ≡ x-after S sender-from-0 value p j
+  Holds (second-of p) s = (s .value ≡ x-after S sender-from-0 value p j) × (s .z ≡ z-after S sender-from-0 value p j)
+  Holds (from-king p) s = (s .value ≡ y-after S sender-from-0 value p j) × (s .grade ≡ grade-after S sender-from-0 value p j)
 
   pub record Knows (r : ℕ) (s : State) : Type 0 where
     pub in-round : s .round ≡ r
@@ -37,7 +37,7 @@ module _ (S : Setting) (sender value : ℕ) (in-line : sender < S .n) (few : S .
 
   -- a row with the run's bytes of round r
   abbrev pub Received : ℕ → Row → Type 0
-  Received r row = (i : ℕ) → i < S .n → row i ≡ sent S sender value r i j
+  Received r row = (i : ℕ) → i < S .n → row i ≡ sent S sender-from-0 value r i j
 
   -- ---- one row more
 
@@ -45,26 +45,26 @@ module _ (S : Setting) (sender value : ℕ) (in-line : sender < S .n) (few : S .
   unfolding advance taken next Holds x-after sent first-round
   step-sender s row h k = rw (k .in-round, part-sender) (record {
     in-round = refl;
-    holds = rw (part-first 0) (ap read-sender (h sender in-line ∙ ap (sends S 1 sender j) (said-sender S sender value)));
+    holds = rw (part-first 0) (ap read-sender (h sender-from-0 in-line ∙ ap (sends S 1 sender-from-0 j) (said-sender S sender-from-0 value)));
   })
 
   pub step-first : (p : ℕ) (s : State) (row : Row) → Received (first-round p) row → Knows (first-round p) s
       → Knows (first-round p + 1) (advance its-setup s row)
   unfolding advance taken next Holds z-after z first-row sent
   step-first p s row h k =
-      let e : s .value ≡ x-after S sender value p j = rw (part-first p) at (k .holds) in
-      let same = z-same (S .n) row _ (λ i l. h i l ∙ ap (sends S (first-round p) i j) (said-first S sender value p i)) in
+      let e : s .value ≡ x-after S sender-from-0 value p j = rw (part-first p) at (k .holds) in
+      let same = z-same (S .n) row _ (λ i l. h i l ∙ ap (sends S (first-round p) i j) (said-first S sender-from-0 value p i)) in
       rw (k .in-round, part-first p) (record {
         in-round = refl;
-        holds = rw (part-second p) (e, rw e (same (S .T) (x-after S sender value p j)));
+        holds = rw (part-second p) (e, rw e (same (S .T) (x-after S sender-from-0 value p j)));
       })
 
   pub step-second : (p : ℕ) (s : State) (row : Row) → Received (first-round p + 1) row → Knows (first-round p + 1) s
       → Knows (first-round p + 1 + 1) (advance its-setup s row)
   unfolding advance taken next Holds z-after y-after grade-after y grade second-row sent
   step-second p s row h k =
-      let same : (i : ℕ) → i < S .n → row i ≡ second-row S (first-round p) (x-after S sender value p) j i
-      = λ i l. h i l ∙ ap (sends S (first-round p + 1) i j) (said-second S sender value p i) in
+      let same : (i : ℕ) → i < S .n → row i ≡ second-row S (first-round p) (x-after S sender-from-0 value p) j i
+      = λ i l. h i l ∙ ap (sends S (first-round p + 1) i j) (said-second S sender-from-0 value p i) in
       let ey = y-same (S .n) row _ same in
       let two : first-round p + 1 + 1 ≡ first-round p + 2 = omega arith in
       rw (k .in-round, part-second p) (record {
@@ -77,7 +77,7 @@ module _ (S : Setting) (sender value : ℕ) (in-line : sender < S .n) (few : S .
   unfolding advance taken next Holds x-after y-after grade-after sent
   step-king p s row l h k =
       let (e, g) : Holds (from-king p) s = rw (part-king p) at (k .holds) in
-      let b = h p (omega (arith, first-is p)) ∙ ap (sends S (first-round p + 2) p j) (said-king S sender value p) in
+      let b = h p (omega (arith, first-is p)) ∙ ap (sends S (first-round p + 2) p j) (said-king S sender-from-0 value p) in
       rw (k .in-round, part-king p) (record {
         in-round = refl;
         holds = rw (next-first p, part-first (suc p)) (rw (e, g, b));
@@ -102,30 +102,30 @@ module _ (S : Setting) (sender value : ℕ) (in-line : sender < S .n) (few : S .
 
   -- ---- what it tells
 
-  tells-sender : (s : State) → (j ≡ sender → v ≡ value) → Knows 1 s → ballot its-setup s ≡ said S sender value 1 j
+  tells-sender : (s : State) → (j ≡ sender-from-0 → v ≡ value) → Knows 1 s → ballot its-setup s ≡ said S sender-from-0 value 1 j
   unfolding ballot said held spoken speaks Holds
   tells-sender s opens k =
-      let e : s .value ≡ v = rw part-sender at (k .holds) in rw (k .in-round, part-sender) (go (eqb j sender) refl e)
+      let e : s .value ≡ v = rw part-sender at (k .holds) in rw (k .in-round, part-sender) (go (eqb j sender-from-0) refl e)
     where
-      go : (b : Bool) → eqb j sender ≡ b → s .value ≡ v → (if b then s .value else silence) ≡ (if b then value else silence)
-      go true q e = e ∙ opens (eqb-true j sender q)
+      go : (b : Bool) → eqb j sender-from-0 ≡ b → s .value ≡ v → (if b then s .value else silence) ≡ (if b then value else silence)
+      go true q e = e ∙ opens (eqb-true j sender-from-0 q)
       go false q e = refl
 
-  tells-first : (p : ℕ) (s : State) → Knows (first-round p) s → ballot its-setup s ≡ said S sender value (first-round p) j
+  tells-first : (p : ℕ) (s : State) → Knows (first-round p) s → ballot its-setup s ≡ said S sender-from-0 value (first-round p) j
   unfolding ballot said held spoken speaks Holds
   tells-first p s k = rw (k .in-round, part-first p) (rw (part-first p) at (k .holds))
 
-  tells-second : (p : ℕ) (s : State) → Knows (first-round p + 1) s → ballot its-setup s ≡ said S sender value (first-round p + 1) j
+  tells-second : (p : ℕ) (s : State) → Knows (first-round p + 1) s → ballot its-setup s ≡ said S sender-from-0 value (first-round p + 1) j
   unfolding ballot said held spoken speaks Holds
   tells-second p s k = let h : Holds (second-of p) s = rw (part-second p) at (k .holds) in rw (k .in-round, part-second p) (h .1)
 
-  tells-king : (p : ℕ) (s : State) → Knows (first-round p + 2) s → ballot its-setup s ≡ said S sender value (first-round p + 2) j
+  tells-king : (p : ℕ) (s : State) → Knows (first-round p + 2) s → ballot its-setup s ≡ said S sender-from-0 value (first-round p + 2) j
   unfolding ballot said held spoken speaks Holds
   tells-king p s k = let h : Holds (from-king p) s = rw (part-king p) at (k .holds) in rw (k .in-round, part-king p, h .0)
 
-  pub tells : (r : ℕ) → 1 ≤ r → (j ≡ sender → v ≡ value) → (s : State) → Knows r s → ballot its-setup s ≡ said S sender value r j
+  pub tells : (r : ℕ) → 1 ≤ r → (j ≡ sender-from-0 → v ≡ value) → (s : State) → Knows r s → ballot its-setup s ≡ said S sender-from-0 value r j
   tells r h opens =
-      by-parts (λ (q : ℕ). (s : State) → Knows q s → ballot its-setup s ≡ said S sender value q j)
+      by-parts (λ (q : ℕ). (s : State) → Knows q s → ballot its-setup s ≡ said S sender-from-0 value q j)
       (λ s. tells-sender s opens) tells-first tells-second tells-king r h
 
   -- ---- what it answers
@@ -134,7 +134,7 @@ module _ (S : Setting) (sender value : ℕ) (in-line : sender < S .n) (few : S .
   is-running r s l k = running-in its-setup s r (k .in-round) l
 
   pub is-done : (s : State) → Knows (suc (rounds (S .t))) s
-      → result its-setup s ≡ done (value-of S sender value j) (final-grade S sender value j) (final-flag S sender value j)
+      → result its-setup s ≡ done (value-of S sender-from-0 value j) (final-grade S sender-from-0 value j) (final-flag S sender-from-0 value j)
   unfolding Holds phases value-of final-grade final-flag
   is-done s k =
       let e : suc (rounds (S .t)) ≡ first-round (S .t + 1) + 2 = omega (arith, first-is (S .t + 1)) in

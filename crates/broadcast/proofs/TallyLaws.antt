@@ -6,7 +6,7 @@ use mathlib.Core.Bool.{Bool, true, false}
 use mathlib.Core.Logic.{_⊎_, inl, inr, _≢_}
 use native.Mathlib.Omega.{arith}
 use native.Mathlib.Nat.{eq-zero-or-pos}
-use lib.Dec.{eqb}
+use lib.Dec.{eqb, ltb}
 use borrow.Author.Tests.{eqb-true, lt-ltb, le-ltb, le-leb, lt-leb, eq-eqb, ne-eqb}
 use Rattle.line.specs.Count.{if_then_else_, count}
 use Rattle.line.specs.Ballot.{blank, read-first, read-second, read-king}
@@ -17,10 +17,14 @@ use Rattle.broadcast.specs.Broadcast.{obey}
 
 -- ---- zeros, ones and blanks
 
-pub blanks-for-neither : (n v : ℕ) (row : Row) → v ≤ 1 → ((k : ℕ) → k < n → row k ≢ v) → seconds n v row ≡ 0
+pub blanks-for-neither : (n v : ℕ) (row : Row) → v ≤ 1 → seconds n v row ≡ count n (λ i. eqb (row i) v)
 unfolding seconds tally
-blanks-for-neither n v row h other =
-    count-same n _ _ (λ k l. ne-eqb (read-second (row k)) v (λ e. other k l (read-second-because (row k) v h e))) ∙ count-none n
+blanks-for-neither n v row h = count-same n _ _ (λ k _. go (row k) (le-or-lt (row k) 1))
+  where
+    go : (b : ℕ) → (b ≤ 1) ⊎ (1 < b) → eqb (read-second b) v ≡ eqb b v
+    go b (inl l) = rw (read-second-keeps b (omega arith))
+    go b (inr l) =
+        ne-eqb (read-second b) v (λ e. omega (arith, read-second-because b v h e)) ∙ sym (ne-eqb b v (λ e. omega arith))
 
 -- what is 0, 1 or 2 everywhere: the three counts make n
 three : (f : ℕ → ℕ) → ((k : ℕ) → f k ≤ 2) → (n : ℕ)
@@ -168,6 +172,14 @@ grade-means n t T c =
 pub flag-means : (g : ℕ) → (g < 2 → flag-of g ≡ 1) × (2 ≤ g → flag-of g ≡ 0)
 unfolding flag-of
 flag-means g = (λ h. if-true 1 0 (lt-ltb g 2 h), λ h. if-false 1 0 (le-ltb g 2 h))
+
+pub flag-bit : (g : ℕ) → flag-of g ≤ 1
+unfolding flag-of
+flag-bit g = go (ltb g 2)
+  where
+    go : (b : Bool) → (if b then 1 else 0) ≤ 1
+    go true = omega arith
+    go false = omega arith
 
 -- the king's word
 pub obey-means : (g y b : ℕ) → (g ≡ 0 → obey g y b ≡ read-king b) × (1 ≤ g → obey g y b ≡ y)

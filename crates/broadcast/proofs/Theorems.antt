@@ -1,9 +1,10 @@
 -- The theorems: each statement of specs/Theorems.antt, under its name, and the law that proves it. Assumes nothing.
-use Rattle.broadcast.specs.Theorems.{Blanks-count-for-neither, Ballots-make-n, Definition-6, Definition-6-alone, Exchange-effect, Log-bytes, Sent-by-rounds, Outcome-bytes, Table-effect, Demand-3, Station-follows-run, Stations-make-run, Done-after-rows, Value-at-sender}
+use Rattle.broadcast.specs.Theorems.{Blanks-count-for-neither, Ballots-make-n, Definition-6, Definition-6-alone, Exchange-effect, Exchange-bytes, Log-bytes, Part-by-rounds, Sent-by-rounds, Outcome-bytes, Table-effect, Demand-3, Station-follows-run, Stations-make-run, Done-after-rows, Value-at-sender}
 use Rattle.broadcast.proofs.TallyLaws.{blanks-for-neither, seconds-make-n}
 use Rattle.broadcast.proofs.ExchangeLaws.{graded-consensus}
 use Rattle.broadcast.proofs.RoundLaws.{done-after, value-without-effect}
-use Rattle.broadcast.proofs.BytesLaws.{log-size, log-at, graded-consensus-alone, two-threshold-bytes, outcome-ranges-of}
+use Rattle.broadcast.proofs.BytesLaws.{log-size, log-at, graded-consensus-alone, two-threshold-bytes, exchange-ranges, outcome-ranges-of}
+use Rattle.broadcast.proofs.PartLaws as part
 use Rattle.broadcast.proofs.SaidLaws as said
 use Rattle.broadcast.proofs.EffectLaws.{same-exchange, same-effect}
 use Rattle.broadcast.proofs.AssemblyLaws.{follows, make-run}
@@ -20,11 +21,17 @@ definition-6 = graded-consensus
 pub definition-6-alone : Definition-6-alone
 definition-6-alone = graded-consensus-alone
 
+pub exchange-bytes : Exchange-bytes
+exchange-bytes = exchange-ranges
+
 pub exchange-effect : Exchange-effect
 exchange-effect = same-exchange
 
 pub log-bytes : Log-bytes
 log-bytes R = record { size = log-size R; byte = log-at R }
+
+pub part-by-rounds : Part-by-rounds
+part-by-rounds = part.part-by-rounds
 
 pub sent-by-rounds : Sent-by-rounds
 sent-by-rounds = said.sent-by-rounds

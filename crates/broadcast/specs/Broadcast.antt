@@ -22,11 +22,11 @@ unfoldable pub first-round : ℕ → ℕ
 first-round p = 3 * (p + 1) - 1
 
 -- a broadcast of a value by a sender
-module _ (S : Setting) (sender value : ℕ) where
+module _ (S : Setting) (sender-from-0 value : ℕ) where
   -- each station's x after round 1 and p phases. Round 1: "Every station takes what it reads as x". Then "round 3p+1, in which king p sends
   -- its y": the king of phase p + 1, the document's station p + 1, is station p here
   unfoldable pub x-after : ℕ → ℕ → ℕ
-  x-after zero j = read-sender (sends S 1 sender j value)
+  x-after zero j = read-sender (sends S 1 sender-from-0 j value)
   x-after (suc p) j =
       let r = first-round p in
       let x = x-after p in
@@ -74,22 +74,22 @@ part r =
 
 -- who should speak
 unfoldable pub speaks : ℕ → Part → ℕ → Bool
-speaks sender from-sender i = eqb i sender
-speaks sender (first-of p) i = true
-speaks sender (second-of p) i = true
-speaks sender (from-king p) i = eqb i p
+speaks sender-from-0 from-sender i = eqb i sender-from-0
+speaks sender-from-0 (first-of p) i = true
+speaks sender-from-0 (second-of p) i = true
+speaks sender-from-0 (from-king p) i = eqb i p
 
-module _ (S : Setting) (sender value : ℕ) where
+module _ (S : Setting) (sender-from-0 value : ℕ) where
   -- the ballot of a station that speaks
   unfoldable pub spoken : Part → ℕ → ℕ
   spoken from-sender i = value
-  spoken (first-of p) i = x-after S sender value p i
-  spoken (second-of p) i = z-after S sender value p i
-  spoken (from-king p) i = y-after S sender value p i
+  spoken (first-of p) i = x-after S sender-from-0 value p i
+  spoken (second-of p) i = z-after S sender-from-0 value p i
+  spoken (from-king p) i = y-after S sender-from-0 value p i
 
   -- "what the steps make it send, 255 in a round where it doesn't speak"
   unfoldable pub said : ℕ → ℕ → ℕ
-  said r i = if speaks sender (part r) i then spoken (part r) i else silence
+  said r i = if speaks sender-from-0 (part r) i then spoken (part r) i else silence
 
   -- what i sends to j in round r: "A bad station's bytes are copied from the table unread"
   unfoldable pub sent : ℕ → ℕ → ℕ → ℕ

@@ -3,7 +3,7 @@ use Prim.Native.Nat.{ℕ, zero, suc, _+_, _-_, _/_, _%_}
 use mathlib.Core.List.{List, [], _∷_}
 use lib.Dec.{eqb}
 use Rattle.line.specs.Count.{if_then_else_}
-use Rattle.line.specs.Line.{table-length, outcomes-length, place}
+use Rattle.line.specs.Line.{from-0, table-length, outcomes-length, place}
 use Rattle.line.specs.Marks.{marked}
 use Rattle.broadcast.specs.Exchange.{Setting, y, grade, flag-of}
 use Rattle.broadcast.specs.Broadcast.{value-of, final-grade, final-flag, sent}
@@ -53,13 +53,9 @@ pub record Run : Type 0 where
 abbrev pub setting-of : Run → Setting
 setting-of R = setting (R .n) (R .t) (R .T) (R .marks) (R .table)
 
--- the sender counted from 0
-abbrev pub sender-of : Run → ℕ
-sender-of R = R .sender - 1
-
 -- "The rehearsal writes a log, laid out like the table.": the byte at k is that of the round, sender and receiver whose place k is
 unfoldable pub log-byte : Run → ℕ → ℕ
-log-byte R k = let n = R .n in sent (setting-of R) (sender-of R) (R .value) (k / n / n + 1) (k / n % n) (k % n)
+log-byte R k = let n = R .n in sent (setting-of R) (from-0 (R .sender)) (R .value) (k / n / n + 1) (k / n % n) (k % n)
 
 unfoldable pub log : Run → List ℕ
 log R = tabulate (table-length (R .n) (R .t)) (log-byte R)
@@ -67,13 +63,13 @@ log R = tabulate (table-length (R .n) (R .t)) (log-byte R)
 unfoldable pub outcomes : Run → List ℕ
 outcomes R =
     let S = setting-of R in
-    outcome-bytes S (value-of S (sender-of R) (R .value)) (final-grade S (sender-of R) (R .value)) (final-flag S (sender-of R) (R .value))
+    outcome-bytes S (value-of S (from-0 (R .sender)) (R .value)) (final-grade S (from-0 (R .sender)) (R .value)) (final-flag S (from-0 (R .sender)) (R .value))
 
 -- ---- the single station in a run
 
 -- station j of a run, as it is opened
 unfoldable pub setup : Run → ℕ → Setup
-setup R j = record { n = R .n; t = R .t; T = R .T; sender = sender-of R; own = j }
+setup R j = record { n = R .n; t = R .t; T = R .T; sender-from-0 = from-0 (R .sender); own-from-0 = j }
 
 -- the row that station j receives in round r, where the bytes sent in all rounds are laid out like a table
 unfoldable pub column : ℕ → List ℕ → ℕ → ℕ → List ℕ

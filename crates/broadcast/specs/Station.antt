@@ -9,13 +9,13 @@ use Rattle.line.specs.Ballot.{blank, silence, read-sender}
 use Rattle.broadcast.specs.Exchange.{Row, seconds, z-of, y-of, grade-of, flag-of}
 use Rattle.broadcast.specs.Broadcast.{Part, from-sender, first-of, second-of, from-king, part, speaks, obey}
 
--- "A station is opened with n, t, T, sender, own number and a value": what stays; sender and own are counted from 0
+-- "A station is opened with n, t, T, sender, own number and a value": what stays
 pub record Setup : Type 0 where
   pub n : ℕ
   pub t : ℕ
   pub T : ℕ
-  pub sender : ℕ
-  pub own : ℕ
+  pub sender-from-0 : ℕ
+  pub own-from-0 : ℕ
 
 -- what changes: the current round; value, which is the value it was opened with, then x, and y from each exchange on; z; and the grade
 pub record State : Type 0 where
@@ -36,14 +36,14 @@ held s (second-of p) = s .z
 held s (from-king p) = s .value
 
 unfoldable pub ballot : Setup → State → ℕ
-ballot c s = if speaks (c .sender) (part (s .round)) (c .own) then held s (part (s .round)) else silence
+ballot c s = if speaks (c .sender-from-0) (part (s .round)) (c .own-from-0) then held s (part (s .round)) else silence
 
 -- "and takes a row of n received bytes to pass to the next round"
 unfoldable pub next : State → ℕ → ℕ → ℕ → State
 next s value z grade = record { round = s .round + 1; value = value; z = z; grade = grade }
 
 unfoldable pub taken : Setup → State → Row → Part → State
-taken c s row from-sender = next s (read-sender (row (c .sender))) (s .z) (s .grade)
+taken c s row from-sender = next s (read-sender (row (c .sender-from-0))) (s .z) (s .grade)
 taken c s row (first-of p) = next s (s .value) (z-of (c .n) (c .T) (s .value) row) (s .grade)
 taken c s row (second-of p) =
     let y = y-of (c .n) row in next s y (s .z) (grade-of (c .n) (c .t) (c .T) (seconds (c .n) y row))

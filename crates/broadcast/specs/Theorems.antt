@@ -5,21 +5,23 @@ use mathlib.Core.Path.{_≡_}
 use mathlib.Core.Logic.{_≢_}
 use mathlib.Core.Bool.{Bool, true, false}
 use mathlib.Core.List.{List}
+use lib.Dec.{eqb}
 use lib.ListN.{length}
-use Rattle.line.specs.Line.{Fits, rounds, table-length, outcomes-length, place}
+use Rattle.line.specs.Count.{count}
+use Rattle.line.specs.Line.{Fits, from-0, rounds, table-length, outcomes-length, place}
 use Rattle.line.specs.Marks.{marked}
 use Rattle.line.specs.Ballot.{blank}
 use Rattle.broadcast.specs.Exchange.{Row, seconds, Setting, y, grade, flag-of}
-use Rattle.broadcast.specs.Broadcast.{x-after, z-after, y-after, part, speaks, sent}
+use Rattle.broadcast.specs.Broadcast.{from-sender, first-of, second-of, from-king, x-after, z-after, y-after, part, sent}
 use Rattle.broadcast.specs.Station.{Setup, running, done, ballot, result, at, after}
-use Rattle.broadcast.specs.Bytes.{exchange-outcomes, Run, setting-of, sender-of, log, outcomes, setup, column}
+use Rattle.broadcast.specs.Bytes.{exchange-outcomes, Run, setting-of, log, outcomes, setup, column}
 use Rattle.broadcast.specs.Guarantees.{Good, GradedConsensus, TwoThreshold}
 
 -- ---- the graded exchange
 
--- step 4: "blanks count for neither": what is counted for 0 or 1 are bytes 0 or 1
+-- step 4: "blanks count for neither": the count for v, 0 or 1, is the number of bytes that are v
 abbrev pub Blanks-count-for-neither : Type 0
-Blanks-count-for-neither = (n v : ℕ) (row : Row) → v ≤ 1 → ((k : ℕ) → k < n → row k ≢ v) → seconds n v row ≡ 0
+Blanks-count-for-neither = (n v : ℕ) (row : Row) → v ≤ 1 → seconds n v row ≡ count n (λ i. eqb (row i) v)
 
 -- step 4: "and zeros, ones and blanks make n"
 abbrev pub Ballots-make-n : Type 0
@@ -40,6 +42,19 @@ grade-at bytes i = at bytes (3 * i + 1)
 
 abbrev pub flag-at : List ℕ → ℕ → ℕ
 flag-at bytes i = at bytes (3 * i + 2)
+
+-- "value, grade 0 to 2, flag 0 or 1. A bad station's three bytes are 255.", and "The flag is 1 when the grade is below 2."
+pub record OutcomeBytes (n : ℕ) (bad : ℕ → Bool) (bytes : List ℕ) : Type 0 where
+  pub size : length bytes ≡ outcomes-length n
+  pub good : (i : ℕ) → Good n bad i → (value-at bytes i ≤ 1) × (grade-at bytes i ≤ 2) × (flag-at bytes i ≡ flag-of (grade-at bytes i))
+  pub marked-value : (i : ℕ) → i < n → bad i ≡ true → value-at bytes i ≡ 255
+  pub marked-grade : (i : ℕ) → i < n → bad i ≡ true → grade-at bytes i ≡ 255
+  pub marked-flag : (i : ℕ) → i < n → bad i ≡ true → flag-at bytes i ≡ 255
+
+-- of the exchange had alone
+abbrev pub Exchange-bytes : Type 0
+Exchange-bytes =
+    (n t T marks : ℕ) (inputs table : List ℕ) → OutcomeBytes n (marked marks) (exchange-outcomes n t T marks inputs table)
 
 -- Definition 6 of the outcome bytes of the exchange had alone
 abbrev pub Definition-6-alone : Type 0
@@ -64,65 +79,80 @@ Exchange-effect =
 pub record LogBytes (R : Run) : Type 0 where
   pub size : length (log R) ≡ table-length (R .n) (R .t)
   pub byte : (r i j : ℕ) → 1 ≤ r → r ≤ rounds (R .t) → i < R .n → j < R .n
-      → at (log R) (place (R .n) r i j) ≡ sent (setting-of R) (sender-of R) (R .value) r i j
+      → at (log R) (place (R .n) r i j) ≡ sent (setting-of R) (from-0 (R .sender)) (R .value) r i j
 
 abbrev pub Log-bytes : Type 0
 Log-bytes = (R : Run) → LogBytes R
 
--- what good station i sends to each j, in document 01's own rounds and phases: "Phase p, from 1 to t+1, has rounds 3p−1 and 3p for one graded
--- exchange, and round 3p+1, in which king p sends its y.", "Rounds 3t+5 and 3t+6: one more graded exchange", which is phase t + 2 here, and
--- "255 in a round where it doesn't speak"
+-- the parts by which the definitions go, in document 01's own rounds: "Phase p, from 1 to t+1, has rounds 3p−1 and 3p for one graded exchange, and
+-- round 3p+1, in which king p sends its y.", and p − 1 phases precede phase p
+pub record PartByRounds (p : ℕ) : Type 0 where
+  pub sender : part 1 ≡ from-sender
+  pub first : 1 ≤ p → part (3 * p - 1) ≡ first-of (p - 1)
+  pub second : 1 ≤ p → part (3 * p) ≡ second-of (p - 1)
+  pub king : 1 ≤ p → part (3 * p + 1) ≡ from-king (p - 1)
+
+abbrev pub Part-by-rounds : Type 0
+Part-by-rounds = (p : ℕ) → PartByRounds p
+
+-- what good station i sends to each j, in the same rounds: "Rounds 3t+5 and 3t+6: one more graded exchange" are phase t + 2 here, and "255 in a round
+-- where it doesn't speak"
 pub record SentByRounds (R : Run) (i j : ℕ) : Type 0 where
   pub sender : i + 1 ≡ R .sender → at (log R) (place (R .n) 1 i j) ≡ R .value
   pub not-sender : i + 1 ≢ R .sender → at (log R) (place (R .n) 1 i j) ≡ 255
   pub first : (p : ℕ) → 1 ≤ p → p ≤ R .t + 2
-      → at (log R) (place (R .n) (3 * p - 1) i j) ≡ x-after (setting-of R) (sender-of R) (R .value) (p - 1) i
+      → at (log R) (place (R .n) (3 * p - 1) i j) ≡ x-after (setting-of R) (from-0 (R .sender)) (R .value) (p - 1) i
   pub second : (p : ℕ) → 1 ≤ p → p ≤ R .t + 2
-      → at (log R) (place (R .n) (3 * p) i j) ≡ z-after (setting-of R) (sender-of R) (R .value) (p - 1) i
+      → at (log R) (place (R .n) (3 * p) i j) ≡ z-after (setting-of R) (from-0 (R .sender)) (R .value) (p - 1) i
   pub king : (p : ℕ) → 1 ≤ p → p ≤ R .t + 1 → i + 1 ≡ p
-      → at (log R) (place (R .n) (3 * p + 1) i j) ≡ y-after (setting-of R) (sender-of R) (R .value) (p - 1) i
+      → at (log R) (place (R .n) (3 * p + 1) i j) ≡ y-after (setting-of R) (from-0 (R .sender)) (R .value) (p - 1) i
   pub not-king : (p : ℕ) → 1 ≤ p → p ≤ R .t + 1 → i + 1 ≢ p → at (log R) (place (R .n) (3 * p + 1) i j) ≡ 255
 
 abbrev pub Sent-by-rounds : Type 0
 Sent-by-rounds =
     (R : Run) → 1 ≤ R .sender → (i j : ℕ) → Good (R .n) (marked (R .marks)) i → j < R .n → SentByRounds R i j
 
--- "value, grade 0 to 2, flag 0 or 1. A bad station's three bytes are 255.", and "The flag is 1 when the grade is below 2."
-pub record OutcomeBytes (n : ℕ) (bad : ℕ → Bool) (bytes : List ℕ) : Type 0 where
-  pub size : length bytes ≡ outcomes-length n
-  pub good : (i : ℕ) → Good n bad i → (value-at bytes i ≤ 1) × (grade-at bytes i ≤ 2) × (flag-at bytes i ≡ flag-of (grade-at bytes i))
-  pub marked-value : (i : ℕ) → i < n → bad i ≡ true → value-at bytes i ≡ 255
-  pub marked-grade : (i : ℕ) → i < n → bad i ≡ true → grade-at bytes i ≡ 255
-  pub marked-flag : (i : ℕ) → i < n → bad i ≡ true → flag-at bytes i ≡ 255
-
+-- the same of a run's outcomes
 abbrev pub Outcome-bytes : Type 0
 Outcome-bytes = (R : Run) → OutcomeBytes (R .n) (marked (R .marks)) (outcomes R)
 
--- "only those of a round in which it should speak have effect. The table's bytes for good senders have none.": with any other table that
--- agrees in what marked stations send to good ones in the rounds in which they should speak, every good station sends the same and
--- all outcomes are the same
+-- the run with another table
 abbrev pub with-table : Run → List ℕ → Run
 with-table R table =
     record { n = R .n; t = R .t; T = R .T; sender = R .sender; value = R .value; marks = R .marks; table = table }
 
+-- both tables have the same bytes for round r, from i, to each good station
+abbrev pub SameToGood : Run → List ℕ → ℕ → ℕ → Type 0
+SameToGood R table r i =
+    (j : ℕ) → Good (R .n) (marked (R .marks)) j → at (R .table) (place (R .n) r i j) ≡ at table (place (R .n) r i j)
+
+-- and so in every round in which i should speak: round 1 of the sender, "rounds 3p−1 and 3p", "round 3p+1, in which king p sends its y", "Rounds 3t+5
+-- and 3t+6", which are phase t + 2 here
+pub record SameWhereSpoken (R : Run) (table : List ℕ) (i : ℕ) : Type 0 where
+  pub sender : i + 1 ≡ R .sender → SameToGood R table 1 i
+  pub first : (p : ℕ) → 1 ≤ p → p ≤ R .t + 2 → SameToGood R table (3 * p - 1) i
+  pub second : (p : ℕ) → 1 ≤ p → p ≤ R .t + 2 → SameToGood R table (3 * p) i
+  pub king : (p : ℕ) → 1 ≤ p → p ≤ R .t + 1 → i + 1 ≡ p → SameToGood R table (3 * p + 1) i
+
+-- every good station sends the same in every round, and all outcomes are the same
 pub record SameEffect (R R′ : Run) : Type 0 where
   pub ballots : (r i j : ℕ) → 1 ≤ r → r ≤ rounds (R .t) → Good (R .n) (marked (R .marks)) i → j < R .n
       → at (log R) (place (R .n) r i j) ≡ at (log R′) (place (R .n) r i j)
   pub results : outcomes R ≡ outcomes R′
 
+-- "only those of a round in which it should speak have effect. The table's bytes for good senders have none.": another table has the same effect if it
+-- agrees in what marked stations send to good ones where they should speak
 abbrev pub Table-effect : Type 0
 Table-effect =
     (R : Run) (table : List ℕ) → Fits (R .n) (R .t) (R .T) → 1 ≤ R .sender → R .sender ≤ R .n
-    → ((r i j : ℕ) → 1 ≤ r → r ≤ rounds (R .t) → i < R .n → marked (R .marks) i ≡ true → speaks (sender-of R) (part r) i ≡ true
-    → Good (R .n) (marked (R .marks)) j → at (R .table) (place (R .n) r i j) ≡ at table (place (R .n) r i j))
-    → SameEffect R (with-table R table)
+    → ((i : ℕ) → i < R .n → marked (R .marks) i ≡ true → SameWhereSpoken R table i) → SameEffect R (with-table R table)
 
 -- ---- demand 3
 
 abbrev pub Demand-3 : Type 0
 Demand-3 =
     (R : Run) → Fits (R .n) (R .t) (R .T) → R .value ≤ 1
-    → TwoThreshold (R .n) (R .t) (R .T) (marked (R .marks)) (sender-of R) (R .value) (value-at (outcomes R)) (flag-at (outcomes R))
+    → TwoThreshold (R .n) (R .t) (R .T) (marked (R .marks)) (from-0 (R .sender)) (R .value) (value-at (outcomes R)) (flag-at (outcomes R))
 
 -- ---- demand 2; the sentences quoted are the demand's own (docs/PROMISES.md, "What is asked")
 
@@ -139,7 +169,7 @@ pub record Follows (R : Run) (j v : ℕ) : Type 0 where
 abbrev pub Station-follows-run : Type 0
 Station-follows-run =
     (R : Run) → Fits (R .n) (R .t) (R .T) → 1 ≤ R .sender → R .sender ≤ R .n
-    → (j v : ℕ) → Good (R .n) (marked (R .marks)) j → (j ≡ sender-of R → v ≡ R .value) → Follows R j v
+    → (j v : ℕ) → Good (R .n) (marked (R .marks)) j → (j ≡ from-0 (R .sender) → v ≡ R .value) → Follows R j v
 
 -- "single good stations put together with the bad ones' bytes": bytes in which each marked sender has the table's, and each good one what its
 -- single station, opened with v i, sends when it is fed its rows of these same bytes
@@ -161,7 +191,7 @@ pub record MakeRun (R : Run) (v : ℕ → ℕ) : Type 0 where
 abbrev pub Stations-make-run : Type 0
 Stations-make-run =
     (R : Run) → Fits (R .n) (R .t) (R .T) → 1 ≤ R .sender → R .sender ≤ R .n
-    → (v : ℕ → ℕ) → v (sender-of R) ≡ R .value → MakeRun R v
+    → (v : ℕ → ℕ) → v (from-0 (R .sender)) ≡ R .value → MakeRun R v
 
 -- ---- one station, on any rows
 
@@ -183,4 +213,4 @@ pub record ValueWithoutEffect (c : Setup) (v w : ℕ) (rows : ℕ → List ℕ) 
   pub results : (m : ℕ) → result c (after c v rows m) ≡ result c (after c w rows m)
 
 abbrev pub Value-at-sender : Type 0
-Value-at-sender = (c : Setup) → c .own ≢ c .sender → (v w : ℕ) (rows : ℕ → List ℕ) → ValueWithoutEffect c v w rows
+Value-at-sender = (c : Setup) → c .own-from-0 ≢ c .sender-from-0 → (v w : ℕ) (rows : ℕ → List ℕ) → ValueWithoutEffect c v w rows

@@ -1,6 +1,7 @@
 -- The line of n stations with the thresholds t and T (document 01, "Names").
 -- In the definitions of a run and of its tables stations are counted from 0: station i is the document's station i + 1. What is handed in keeps the
--- document's numbers, from 1: a sender, an own number, a record's from and to. Rounds are numbered from 1, as in the document.
+-- document's numbers, from 1: a sender, an own number, a record's from and to. Where one of these is counted from 0 its name says so. Rounds are
+-- numbered from 1, as in the document.
 use Prim.Native.Nat.{ℕ, _+_, _-_, _*_, _≤_, _<_}
 
 -- "n: stations, 1 to 32."
@@ -11,6 +12,10 @@ most-stations = 32
 pub record Fits (n t T : ℕ) : Type 0 where
   pub order : t ≤ T
   pub room : t + 2 * T < n
+
+-- the document's station i, counted from 0
+abbrev pub from-0 : ℕ → ℕ
+from-0 i = i - 1
 
 -- "R = 3t + 6 rounds."
 abbrev pub rounds : ℕ → ℕ
