@@ -10,16 +10,16 @@ use borrow.Author.Tests.{ltb-false, eq-eqb}
 use lib.ListN.{length, getD, take}
 use lib.Seq.{getD-take, length-take-le, take-all, ext-getD}
 use Rattle.line.specs.Count.{if_then_else_, count}
-use Rattle.line.specs.Line.{most-stations, exchange-length, outcomes-length}
+use Rattle.line.specs.Line.{exchange-length, outcomes-length}
 use Rattle.line.specs.Marks.{marked}
-use Rattle.line.specs.Cause.{code, written}
-use Rattle.line.specs.Header.{station-count, thresholds, marks-within}
+use Rattle.line.specs.Cause.{written}
+use Rattle.line.specs.Header.{marks-within}
 use Rattle.line.specs.declared.cause.Verdict.{Verdict}
 use Rattle.line.specs.declared.cause.Verdict.the-variants.{Accepted}
 use Rattle.line.proofs.CountLaws.{none-passes, count-zero, count-hit, count-miss, count-le}
 use Rattle.line.proofs.LineLaws.{place-from-start}
 use Rattle.line.proofs.WritingLaws.{over-length, front-turn, front-at}
-use Rattle.line.proofs.HeaderLaws.{accepted-false, both-accepted, inside, fitting, length-exact}
+use Rattle.line.proofs.HeaderLaws.{judged, accepted-false, both-accepted, line-sound, length-exact}
 use Rattle.broadcast.specs.Exchange.{Row, Setting, sends, first-row, second-row, seconds, z-of, y-of, grade-of, flag-of, z, y, grade}
 use Rattle.broadcast.specs.Station.{at}
 use Rattle.broadcast.specs.Bytes.{tabulate, setting, outcome-byte, outcome-bytes, exchange-outcomes}
@@ -163,23 +163,23 @@ module _ (n t T marks : ℕ) (inputs : List ℕ) where
       none = omega (arith, ltb-false 0 (foreign-inputs n marks inputs) (rw (eq-eqb (length inputs) n e) at (accepted-false _ _ a)))
 
   -- an accepted exchange is ready
-  pub ready : (table outcomes : ℕ) (answer : Verdict) → answer ≡ exchange-verdict n t T marks inputs table outcomes → answer ≡ Accepted
-      → Ready n t T marks inputs table outcomes
-  unfolding exchange-verdict station-count thresholds
-  ready table outcomes answer v accepted =
+  pub ready : (table-size outcomes-size : ℕ) (answer : Verdict) → answer ≡ exchange-verdict n t T marks inputs table-size outcomes-size
+      → answer ≡ Accepted → Ready n t T marks inputs table-size outcomes-size
+  unfolding exchange-verdict
+  ready table-size outcomes-size answer v accepted =
       let (a, e₂) = both-accepted _ _ (sym v ∙ accepted) in
-      let (b, e₃) = both-accepted _ _ e₂ in
-      let (c, e₄) = both-accepted _ _ e₃ in
-      let (d, e₅) = both-accepted (marks-within n marks) _ e₄ in
-      let (f, e₆) = both-accepted _ _ e₅ in
-      let (g, h) = both-accepted _ _ e₆ in
+      let (c, e₃) = both-accepted _ _ e₂ in
+      let (d, e₄) = both-accepted (marks-within n marks) _ e₃ in
+      let (f, e₅) = both-accepted _ _ e₄ in
+      let (g, h) = both-accepted _ _ e₅ in
+      let (some, most, fits) = line-sound n t T a in
       let whole = length-exact n (length inputs) f in
       record {
-        most = inside 1 most-stations n (accepted-false _ _ a) .1;
-        fits = fitting n t T (accepted-false _ _ b);
+        most = most;
+        fits = fits;
         inputs-whole = whole;
-        table-whole = length-exact (exchange-length n) table g;
-        outcomes-whole = length-exact (outcomes-length n) outcomes h;
+        table-whole = length-exact (exchange-length n) table-size g;
+        outcomes-whole = length-exact (outcomes-length n) outcomes-size h;
         bits = inputs-bits whole c;
       }
 
@@ -187,8 +187,7 @@ module _ (n t T marks : ℕ) (inputs : List ℕ) where
   pub exchanged : (table before after : List ℕ) (answer : Verdict) → answer ≡ exchange-verdict n t T marks inputs (length table) (length before)
       → after ≡ written answer (exchange-outcomes n t T marks inputs table) before → Exchanged n t T marks inputs table before after answer
   exchanged table before after answer e q = record {
-    answer-is = e;
-    number-is = ap code e;
+    judged = judged e;
     outcomes-are = q;
     graded-consensus = λ a.
         let r = ready (length table) (length before) answer e a in

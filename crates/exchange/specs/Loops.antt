@@ -25,11 +25,11 @@ unfoldable pub with-outcome : List ℕ → ℕ → Bool → ℕ → ℕ → List
 with-outcome l j bad y grade =
     set (set (set l (3 * j) (shown bad y)) (3 * j + 1) (shown bad grade)) (3 * j + 2) (shown bad (flag-of grade))
 
--- what an accepted exchange is handed: `table` and `outcomes` are lengths
-pub record Ready (n t T marks : ℕ) (inputs : List ℕ) (table outcomes : ℕ) : Type 0 where
+-- what an accepted exchange is handed
+pub record Ready (n t T marks : ℕ) (inputs : List ℕ) (table-size outcomes-size : ℕ) : Type 0 where
   pub most : n ≤ 32
   pub fits : Fits n t T
   pub inputs-whole : length inputs ≡ n
-  pub table-whole : table ≡ exchange-length n
-  pub outcomes-whole : outcomes ≡ outcomes-length n
+  pub table-whole : table-size ≡ exchange-length n
+  pub outcomes-whole : outcomes-size ≡ outcomes-length n
   pub bits : (i : ℕ) → Good n (marked marks) i → at inputs i ≤ 1

@@ -61,25 +61,24 @@ fn judge_inputs(n: u8, marks: u32, inputs: &[u8]) -> Verdict
 }
 
 // Cause 8: the lengths of the inputs, of the table and of the outcomes.
-fn judge_lengths(line: Line, inputs: usize, table: usize, outcomes: usize) -> Verdict
-    ensures { λ r. ⌜ r ≡ (exact-length (line .n) inputs or-else exact-length (exchange-length (line .n)) table or-else exact-length (outcomes-length (line .n)) outcomes) ⌝ }
+fn judge_lengths(line: Line, inputs_len: usize, table_len: usize, outcomes_len: usize) -> Verdict
+    ensures { λ r. ⌜ r ≡ (exact-length (line .n) «inputs_len» or-else exact-length (exchange-length (line .n)) «table_len» or-else exact-length (outcomes-length (line .n)) «outcomes_len») ⌝ }
 {
-    let a = header::exact_length(line.n as usize, inputs);
-    let b = header::exact_length(line.exchange_len(), table);
-    let c = header::exact_length(line.outcomes_len(), outcomes);
+    let a = header::exact_length(line.n as usize, inputs_len);
+    let b = header::exact_length(line.exchange_len(), table_len);
+    let c = header::exact_length(line.outcomes_len(), outcomes_len);
     a.or_else(b.or_else(c))
 }
 
 // Causes 2, 3, 5, 6 and 8, the lowest first.
-fn judge(line: Line, marks: u32, inputs: &[u8], table: usize, outcomes: usize) -> Verdict
-    ensures { λ r. ⌜ r ≡ exchange-verdict (line .n) (line .t) (line .upper) marks (now (inputs .entry)) table outcomes ⌝ }
+fn judge(line: Line, marks: u32, inputs: &[u8], table_len: usize, outcomes_len: usize) -> Verdict
+    ensures { λ r. ⌜ r ≡ exchange-verdict (line .n) (line .t) (line .upper) marks (now (inputs .entry)) «table_len» «outcomes_len» ⌝ }
 {
-    let a = header::station_count(line.n);
-    let b = header::thresholds(line.n, line.t, line.upper);
-    let c = judge_inputs(line.n, marks, inputs);
-    let d = header::marks_within(line.n, marks);
-    let e = judge_lengths(line, inputs.len(), table, outcomes);
-    a.or_else(b.or_else(c.or_else(d.or_else(e))))
+    let a = header::line_verdict(line);
+    let b = judge_inputs(line.n, marks, inputs);
+    let c = header::marks_within(line.n, marks);
+    let d = judge_lengths(line, inputs.len(), table_len, outcomes_len);
+    a.or_else(b.or_else(c.or_else(d)))
 }
 
 // A sender's ballot: the table's byte if it is marked, otherwise what the steps make it send.

@@ -55,7 +55,7 @@ fn seconds_in(row: &[u8], v: u8, from: usize, to: usize) -> u8
 }
 
 // Step 1: how many ballots of a first row are read as v.
-pub fn firsts(row: &[u8], v: u8) -> usize
+fn firsts(row: &[u8], v: u8) -> usize
     ensures { λ r. ⌜ r ≡ firsts (length (now (row .entry))) v (at (now (row .entry))) ⌝ }
 {
     let mut count: usize = 0;
@@ -69,7 +69,7 @@ pub fn firsts(row: &[u8], v: u8) -> usize
 }
 
 // Steps 3 and 4: how many ballots of a second row are read as v.
-pub fn seconds(row: &[u8], v: u8) -> usize
+fn seconds(row: &[u8], v: u8) -> usize
     ensures { λ r. ⌜ r ≡ seconds (length (now (row .entry))) v (at (now (row .entry))) ⌝ }
 {
     let mut count: usize = 0;
@@ -100,7 +100,7 @@ pub fn z(row: &[u8], upper: u8, x: u8) -> u8
 }
 
 // Step 5: the grade, from the count for y.
-pub fn grade(n: usize, t: u8, upper: u8, count: usize) -> u8
+fn grade(n: usize, t: u8, upper: u8, count: usize) -> u8
     ensures { λ r. ⌜ r ≡ grade-of n t upper count ⌝ }
 {
     let sure = less(n, t);

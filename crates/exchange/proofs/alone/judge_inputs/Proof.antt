@@ -19,7 +19,7 @@ unfolding inputs-verdict
 returns c =
     let g = c .before .before .before .before .args in
     let e = c .before .before .if1 .taken in
-    c .refused-if .ensures ∙ rw (c .before .count-foreign .ensures, eq-eqb (length (g .inputs .now)) (g .n) e, e)
+    c .refused-if .ensures .answer-is ∙ rw (c .before .count-foreign .ensures, eq-eqb (length (g .inputs .now)) (g .n) e, e)
 
 returns-2 : tie.Need-returns-2
 unfolding inputs-verdict
