@@ -6,9 +6,9 @@ use Rattle.station.specs.declared.Station.{Station}
 use Rattle.station.specs.declared.Opened.{Opened}
 use Rattle.station.specs.declared.Told.{Told}
 use Rattle.station.specs.declared.Advanced.{Advanced}
-use Rattle.station.specs.declared.Outcome.{Outcome}
-use Rattle.station.specs.Answers.{opened-number, Opens, told-number, Tells, advanced-number, Advances, outcome-number, Results}
-use Rattle.controller.specs.Words.{station-of, answer-word, opened-word, told-word, advanced-word, outcome-word, OpenAnswer, BallotAnswer, AdvanceAnswer, ResultAnswer}
+use Rattle.station.specs.declared.StationResult.{StationResult}
+use Rattle.station.specs.Answers.{opened-number, Opens, told-number, Tells, advanced-number, Advances, result-number, Results}
+use Rattle.controller.specs.Words.{station-of, answer-word, opened-word, told-word, advanced-word, result-word, OpenAnswer, BallotAnswer, AdvanceAnswer, ResultAnswer}
 
 module _ (n t T sender own : ℕ) where
   pub open-answer : (value r : ℕ) (o : Opened) → Opens n t T sender own value o
@@ -23,5 +23,5 @@ module _ (n t T sender own : ℕ) where
         → AdvanceAnswer n t T sender own state row r
     advance-answer row o p e = record { answer = rw (← q, ← p .answer) e }
 
-    pub result-answer : (o : Outcome) → Results s o → r ≡ answer-word (outcome-number o) (outcome-word o) → ResultAnswer n t T sender own state r
+    pub result-answer : (o : StationResult) → Results s o → r ≡ answer-word (result-number o) (result-word o) → ResultAnswer n t T sender own state r
     result-answer o p e = record { answer = rw (← q, ← p .answer) e }

@@ -12,11 +12,11 @@ use Rattle.station.specs.declared.Told.{Told}
 use Rattle.station.specs.declared.Told.the-variants as told
 use Rattle.station.specs.declared.Advanced.{Advanced}
 use Rattle.station.specs.declared.Advanced.the-variants as advanced
-use Rattle.station.specs.declared.Outcome.{Outcome}
-use Rattle.station.specs.declared.Outcome.the-variants as outcome
+use Rattle.station.specs.declared.StationResult.{StationResult}
+use Rattle.station.specs.declared.StationResult.the-variants as station-result
 use Rattle.station.specs.Judgement.{station-verdict, telling-verdict, taking-verdict, opening-verdict}
-use Rattle.station.specs.Automaton.{setup-of, state-of, in-state, opened-station, outcome-of}
-use Rattle.station.specs.Answers.{opened-by, opened-number, told-by, told-number, advanced-by, advanced-number, outcome-by, outcome-number}
+use Rattle.station.specs.Automaton.{setup-of, state-of, in-state, opened-station, result-of}
+use Rattle.station.specs.Answers.{opened-by, opened-number, told-by, told-number, advanced-by, advanced-number, result-by, result-number}
 
 -- four bytes as one number, the lowest first
 abbrev pub word : ℕ → ℕ → ℕ → ℕ → ℕ
@@ -62,10 +62,10 @@ advanced-word state (advanced.Next s) = state-word s
 advanced-word state (advanced.Refused c) = state
 
 -- 0 and the round while running, 1 and value, grade and flag when done
-abbrev pub outcome-word : Outcome → ℕ
-outcome-word (outcome.Running r) = word 0 r 0 0
-outcome-word (outcome.Done v g f) = word 1 v g f
-outcome-word (outcome.Refused c) = 0
+abbrev pub result-word : StationResult → ℕ
+result-word (station-result.Running r) = word 0 r 0 0
+result-word (station-result.Done v g f) = word 1 v g f
+result-word (station-result.Refused c) = 0
 
 -- ---- the promises
 
@@ -89,5 +89,5 @@ pub record AdvanceAnswer (n t T sender own state : ℕ) (row : List ℕ) (r : �
 -- `vembopu_result`: what `station::result` answers
 pub record ResultAnswer (n t T sender own state r : ℕ) : Type 0 where
   pub answer : let s = station-of n t T sender own state in
-      let o = outcome-by (station-verdict s) (outcome-of s) in
-      r ≡ answer-word (outcome-number o) (outcome-word o)
+      let o = result-by (station-verdict s) (result-of s) in
+      r ≡ answer-word (result-number o) (result-word o)

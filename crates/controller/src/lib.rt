@@ -1,13 +1,13 @@
 // The station for a bonder's controller in C: numbers, and the row's byte slice. C keeps the five numbers that the station was opened with and
 // a state of 32 bits. Each answer is 64 bits: document 01's number of the refusal above, 0 where nothing is refused, and the values below.
 ghost use mathlib.Core.Path.{_≡_};
-ghost use Rattle.controller.specs.Words.{station-of, state-word, answer-word, opened-word, told-word, advanced-word, outcome-word};
+ghost use Rattle.controller.specs.Words.{station-of, state-word, answer-word, opened-word, told-word, advanced-word, result-word};
 ghost use Rattle.controller.specs.Words.{OpenAnswer, BallotAnswer, AdvanceAnswer, ResultAnswer};
 use line::cause::Cause;
 use station::Advanced;
 use station::Opened;
-use station::Outcome;
 use station::Station;
+use station::StationResult;
 use station::Told;
 
 mod words;
@@ -61,13 +61,13 @@ pub extern "C" fn vembopu_advance(
 pub extern "C" fn vembopu_result(n: u8, t: u8, upper: u8, sender: u8, own: u8, state: u32) -> u64
     ensures { λ r. ⌜ ResultAnswer n t upper sender own state r ⌝ }
 {
-    let outcome = station::result(words::station(n, t, upper, sender, own, state));
-    match outcome {
-        Outcome::Running(r) => words::answer(0, words::four(0, r, 0, 0)),
-        Outcome::Done { value, grade, flag } => words::answer(
+    let found = station::result(words::station(n, t, upper, sender, own, state));
+    match found {
+        StationResult::Running(r) => words::answer(0, words::four(0, r, 0, 0)),
+        StationResult::Done { value, grade, flag } => words::answer(
             0,
             words::four(1, value, grade, flag),
         ),
-        Outcome::Refused(c) => words::answer(c.number(), 0),
+        StationResult::Refused(c) => words::answer(c.number(), 0),
     }
 }

@@ -16,7 +16,7 @@ use Rattle.station.specs.Automaton.{ballot-or-silence, advanced-or-same}
 use Rattle.broadcast.specs.Bytes.{tabulate}
 use Rattle.broadcast.proofs.BytesLaws.{length-tabulate, getD-tabulate}
 use Rattle.line.specs.Writing.{over}
-use Rattle.rehearsal.specs.Loops.{spread, spread-if, each-of, from-table, either, blank-station, told, Told-all, Laid, posted-byte, Posted, stepped, Stepped-all, ballot-of, Round}
+use Rattle.rehearsal.specs.Loops.{spread, spread-if, each-of, from-table, either, no-station, told, Told-all, Laid, posted-byte, Posted, stepped, Stepped-all, ballot-of, Round}
 use Rattle.line.proofs.WritingLaws.{over-length, over-before, over-at}
 use Rattle.rehearsal.proofs.WritingLaws.{spread-other, spread-at}
 
@@ -129,7 +129,7 @@ module _ (stations : List Station) (said table : List ℕ) (marks start n : ℕ)
     where
       go : (b : Bool) → marked marks i ≡ b
           → (if b then getD table (start + i * n + j) 0 else getD said i 0)
-          ≡ (if b then getD table (start + i * n + j) 0 else ballot-or-silence (getD stations i blank-station))
+          ≡ (if b then getD table (start + i * n + j) 0 else ballot-or-silence (getD stations i no-station))
       go true e = refl
       go false e = tells i h ∙ if-false _ _ e
 
@@ -153,5 +153,5 @@ module _ (stations : List Station) (said table : List ℕ) (marks start n : ℕ)
     in-log = λ i j a b. P .in-log i j a b ∙ posted-is i j a;
     before = P .before;
     size = P .size;
-    steps = λ j h g. steps j h ∙ if-false _ _ g ∙ ap (advanced-or-same (getD stations j blank-station)) (row-is j h);
+    steps = λ j h g. steps j h ∙ if-false _ _ g ∙ ap (advanced-or-same (getD stations j no-station)) (row-is j h);
   }

@@ -24,13 +24,13 @@ use Rattle.broadcast.proofs.RoundLaws.{after-range, after-round}
 use Rattle.broadcast.proofs.BytesLaws.{length-tabulate, tabulate-same}
 use Rattle.broadcast.proofs.Theorems.{log-bytes, outcome-bytes, station-follows-run, stations-make-run}
 use Rattle.station.specs.declared.Station.{Station}
-use Rattle.station.specs.declared.Outcome.the-variants.{Done}
+use Rattle.station.specs.declared.StationResult.the-variants.{Done}
 use Rattle.station.specs.Judgement as judgement
-use Rattle.station.specs.Answers.{outcome-by}
-use Rattle.station.specs.Automaton.{setup-of, opened-station, outcome-of, ballot-or-silence, advanced-or-same}
+use Rattle.station.specs.Answers.{result-by}
+use Rattle.station.specs.Automaton.{setup-of, opened-station, result-of, ballot-or-silence, advanced-or-same}
 use Rattle.station.proofs.SoundLaws.{sound-accepts, telling-accepts, taking-accepts}
 use Rattle.line.specs.Writing.{over}
-use Rattle.rehearsal.specs.Loops.{either, blank-station, Opened-all, posted-byte, ballot-of, Round, station-after, Playable, Played, pick, result-byte, outcome-byte, outcome-at}
+use Rattle.rehearsal.specs.Loops.{either, no-station, Opened-all, posted-byte, ballot-of, Round, station-after, Playable, Played, pick, result-byte, station-byte, outcome-at}
 use Rattle.line.proofs.WritingLaws.{over-length, over-at}
 use Rattle.rehearsal.proofs.PostLaws.{row-within}
 
@@ -123,7 +123,7 @@ module _ (R : Run) (bytes₀ : List ℕ) (ready : Playable R bytes₀) where
     posted-is i j hi hj = go (marked (R .marks) i) refl
       where
         go : (b : Bool) → marked (R .marks) i ≡ b
-            → (if b then getD (R .table) (m * (R .n * R .n) + i * R .n + j) 0 else ballot-or-silence (getD stations i blank-station))
+            → (if b then getD (R .table) (m * (R .n * R .n) + i * R .n + j) 0 else ballot-or-silence (getD stations i no-station))
             ≡ at (log R) (place (R .n) (suc m) i j)
         go true e = sym (together .from-marked (suc m) i j (omega arith) left hi hj e ∙ at-place (R .table) m i j)
         go false e =
@@ -143,7 +143,7 @@ module _ (R : Run) (bytes₀ : List ℕ) (ready : Playable R bytes₀) where
 
     module _ (bytes′ : List ℕ) (next : List Station)
         (Q : Round stations (R .table) (R .marks) (m * (R .n * R .n)) (R .n) bytes bytes′ next) where
-      stepped : (j : ℕ) → j < R .n → marked (R .marks) j ≡ false → getD next j blank-station ≡ station-after R j (suc m)
+      stepped : (j : ℕ) → j < R .n → marked (R .marks) j ≡ false → getD next j no-station ≡ station-after R j (suc m)
       stepped j h g = Q .steps j h g ∙ rw (row-is j h, P .stations-are j h g) (its-step j m h left)
 
       -- a byte of the round just played
@@ -198,9 +198,9 @@ module _ (R : Run) (bytes₀ : List ℕ) (ready : Playable R bytes₀) where
 
     -- a good station is done with its bytes of the outcomes
     done-station : (i : ℕ) → i < R .n → marked (R .marks) i ≡ false
-        → outcome-by (judgement.station-verdict (station-after R i (rounds (R .t)))) (outcome-of (station-after R i (rounds (R .t))))
+        → result-by (judgement.station-verdict (station-after R i (rounds (R .t)))) (result-of (station-after R i (rounds (R .t))))
         ≡ Done (value-at (outcomes R) i) (grade-at (outcomes R) i) (flag-at (outcomes R) i)
-    unfolding outcome-of station-after setup
+    unfolding result-of station-after setup
     done-station i h g =
         let e : i + 1 - 1 ≡ i = omega arith in
         let d = follows i h g .done-after in
@@ -216,12 +216,12 @@ module _ (R : Run) (bytes₀ : List ℕ) (ready : Playable R bytes₀) where
 
     -- byte d of station i
     byte-is : (i d : ℕ) → i < R .n → d < 3
-        → outcome-byte (getD stations i blank-station) (marked (R .marks) i) d ≡ at (outcomes R) (3 * i + d)
-    unfolding outcome-byte
+        → station-byte (getD stations i no-station) (marked (R .marks) i) d ≡ at (outcomes R) (3 * i + d)
+    unfolding station-byte
     byte-is i d h l = go (marked (R .marks) i) refl
       where
         s : Station
-        s = getD stations i blank-station
+        s = getD stations i no-station
 
         bad-byte : (d : ℕ) → d < 3 → marked (R .marks) i ≡ true → _≡_ {A = ℕ} 255 (at (outcomes R) (3 * i + d))
         bad-byte zero l e = let z : 3 * i + 0 ≡ 3 * i = omega arith in rw z (sym (outcome-bytes R .marked-value i h e))
@@ -230,7 +230,7 @@ module _ (R : Run) (bytes₀ : List ℕ) (ready : Playable R bytes₀) where
         bad-byte (suc (suc (suc d))) l e = absurd (omega arith)
 
         go : (b : Bool) → marked (R .marks) i ≡ b
-            → (if b then 255 else result-byte (outcome-by (judgement.station-verdict s) (outcome-of s)) d) ≡ at (outcomes R) (3 * i + d)
+            → (if b then 255 else result-byte (result-by (judgement.station-verdict s) (result-of s)) d) ≡ at (outcomes R) (3 * i + d)
         go true e = bad-byte d l e
         go false e = rw (P .stations-are i h e, done-station i h e) (picked i d l)
 

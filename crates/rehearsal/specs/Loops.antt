@@ -13,11 +13,11 @@ use Rattle.line.specs.Header.{Sound}
 use Rattle.broadcast.specs.Station.{after}
 use Rattle.broadcast.specs.Bytes.{tabulate, Run, log, outcomes, setup, column}
 use Rattle.station.specs.declared.Station.{Station}
-use Rattle.station.specs.declared.Outcome.{Outcome}
-use Rattle.station.specs.declared.Outcome.the-variants.{Running, Done, Refused}
+use Rattle.station.specs.declared.StationResult.{StationResult}
+use Rattle.station.specs.declared.StationResult.the-variants.{Running, Done, Refused}
 use Rattle.station.specs.Judgement.{station-verdict}
-use Rattle.station.specs.Automaton.{opened-station, station-in, outcome-of, ballot-or-silence, advanced-or-same}
-use Rattle.station.specs.Answers.{outcome-by}
+use Rattle.station.specs.Automaton.{opened-station, station-in, result-of, ballot-or-silence, advanced-or-same}
+use Rattle.station.specs.Answers.{result-by}
 
 -- ---- what is accepted
 
@@ -53,13 +53,13 @@ either bad table a b k = if bad then getD table (a + k) 0 else b
 -- ---- the stations
 
 -- what an array has where no station was put
-abbrev pub blank-station : Station
-blank-station = record { n = 0; t = 0; upper = 0; sender = 0; own = 0; round = 0; value = 0; z = 0; grade = 0 }
+abbrev pub no-station : Station
+no-station = record { n = 0; t = 0; upper = 0; sender = 0; own = 0; round = 0; value = 0; z = 0; grade = 0 }
 
 -- the first m stations are opened
 unfoldable pub Opened-all : ℕ → ℕ → ℕ → ℕ → ℕ → ℕ → List Station → Type 0
 Opened-all n t T sender value m stations =
-    (i : ℕ) → i < m → getD stations i blank-station ≡ opened-station n t T sender (i + 1) value
+    (i : ℕ) → i < m → getD stations i no-station ≡ opened-station n t T sender (i + 1) value
 
 -- what the steps make station i send, 255 where it is bad
 unfoldable pub told : Bool → Station → ℕ
@@ -67,7 +67,7 @@ told bad s = if bad then 255 else ballot-or-silence s
 
 -- the first m bytes are what the stations send
 unfoldable pub Told-all : List Station → ℕ → ℕ → List ℕ → Type 0
-Told-all stations marks m said = (i : ℕ) → i < m → getD said i 0 ≡ told (marked marks i) (getD stations i blank-station)
+Told-all stations marks m said = (i : ℕ) → i < m → getD said i 0 ≡ told (marked marks i) (getD stations i no-station)
 
 -- the first m rows are what is said
 unfoldable pub Laid : List ℕ → ℕ → List ℕ → Type 0
@@ -93,11 +93,11 @@ stepped bad s row = if bad then s else advanced-or-same s row
 unfoldable pub Stepped-all : List Station → List ℕ → ℕ → ℕ → ℕ → List Station → Type 0
 Stepped-all stations rows marks n m next =
     (i : ℕ) → i < m
-    → getD next i blank-station ≡ stepped (marked marks i) (getD stations i blank-station) (take n (drop (i * 32) rows))
+    → getD next i no-station ≡ stepped (marked marks i) (getD stations i no-station) (take n (drop (i * 32) rows))
 
 -- what station i of these sends to j
 unfoldable pub ballot-of : List Station → List ℕ → ℕ → ℕ → ℕ → ℕ → ℕ → ℕ
-ballot-of stations table marks start n i j = posted-byte (ballot-or-silence (getD stations i blank-station)) table marks start n i j
+ballot-of stations table marks start n i j = posted-byte (ballot-or-silence (getD stations i no-station)) table marks start n i j
 
 -- one round: the ballots are in the log, and each good station has taken its n of them
 pub record Round (stations : List Station) (table : List ℕ) (marks start n : ℕ) (log₀ log : List ℕ) (next : List Station) : Type 0 where
@@ -105,8 +105,8 @@ pub record Round (stations : List Station) (table : List ℕ) (marks start n : �
   pub before : (k : ℕ) → k < start → getD log k 0 ≡ getD log₀ k 0
   pub size : length log ≡ length log₀
   pub steps : (j : ℕ) → j < n → marked marks j ≡ false
-      → getD next j blank-station
-      ≡ advanced-or-same (getD stations j blank-station) (tabulate n (λ i. ballot-of stations table marks start n i j))
+      → getD next j no-station
+      ≡ advanced-or-same (getD stations j no-station) (tabulate n (λ i. ballot-of stations table marks start n i j))
 
 -- ---- the run so far
 
@@ -117,7 +117,7 @@ station-after R i m =
 
 -- m rounds are played: the good stations have taken m rows, and the log has the run's bytes of m rounds
 pub record Played (R : Run) (m : ℕ) (stations : List Station) (bytes : List ℕ) : Type 0 where
-  pub stations-are : (i : ℕ) → i < R .n → marked (R .marks) i ≡ false → getD stations i blank-station ≡ station-after R i m
+  pub stations-are : (i : ℕ) → i < R .n → marked (R .marks) i ≡ false → getD stations i no-station ≡ station-after R i m
   pub log-has : (k : ℕ) → k < m * (R .n * R .n) → getD bytes k 0 ≡ getD (log R) k 0
   pub log-whole : length bytes ≡ table-length (R .n) (R .t)
 
@@ -128,16 +128,16 @@ unfoldable pub pick : ℕ → ℕ → ℕ → ℕ → ℕ
 pick d v g f = if eqb d 0 then v else (if eqb d 1 then g else f)
 
 -- byte d of a done station's outcome
-abbrev pub result-byte : Outcome → ℕ → ℕ
+abbrev pub result-byte : StationResult → ℕ → ℕ
 result-byte (Running r) d = 255
 result-byte (Done v g f) d = pick d v g f
 result-byte (Refused c) d = 255
 
-unfoldable pub outcome-byte : Station → Bool → ℕ → ℕ
-outcome-byte s bad d = if bad then 255 else result-byte (outcome-by (station-verdict s) (outcome-of s)) d
+unfoldable pub station-byte : Station → Bool → ℕ → ℕ
+station-byte s bad d = if bad then 255 else result-byte (result-by (station-verdict s) (result-of s)) d
 
 unfoldable pub outcome-at : List Station → ℕ → ℕ → ℕ
-outcome-at stations marks k = outcome-byte (getD stations (k / 3) blank-station) (marked marks (k / 3)) (k % 3)
+outcome-at stations marks k = station-byte (getD stations (k / 3) no-station) (marked marks (k / 3)) (k % 3)
 
 -- ---- the whole run
 

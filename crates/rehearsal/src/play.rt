@@ -8,17 +8,17 @@ ghost use Rattle.line.specs.declared.cause.Verdict.the-variants.{Accepted};
 ghost use Rattle.line.specs.Line.{rounds};
 ghost use Rattle.rehearsal.specs.Promise.{run-of};
 ghost use Rattle.line.specs.Writing.{over};
-ghost use Rattle.rehearsal.specs.Loops.{blank-station, Opened-all, told, Told-all, stepped, Stepped-all, Round, Playable, Played, pick, outcome-byte, outcome-at};
+ghost use Rattle.rehearsal.specs.Loops.{no-station, Opened-all, told, Told-all, stepped, Stepped-all, Round, Playable, Played, pick, station-byte, outcome-at};
 use crate::post;
 use line::Line;
 use line::marks;
 use station::Opened;
-use station::Outcome;
 use station::Station;
+use station::StationResult;
 
 // A place that no station has.
 fn nobody() -> Station
-    ensures { λ r. ⌜ r ≡ blank-station ⌝ }
+    ensures { λ r. ⌜ r ≡ no-station ⌝ }
 {
     Station {
         n: 0,
@@ -167,17 +167,17 @@ pub(crate) fn all_rounds(
 }
 
 // Byte d of a station's outcome, 255 at a bad station.
-fn outcome_byte(s: Station, bad: bool, d: usize) -> u8
-    ensures { λ r. ⌜ r ≡ outcome-byte s bad d ⌝ }
+fn station_byte(s: Station, bad: bool, d: usize) -> u8
+    ensures { λ r. ⌜ r ≡ station-byte s bad d ⌝ }
 {
     if bad {
         return 255;
     }
-    let outcome = station::result(s);
-    match outcome {
-        Outcome::Running(_) => 255,
-        Outcome::Done { value, grade, flag } => pick(d, value, grade, flag),
-        Outcome::Refused(_) => 255,
+    let found = station::result(s);
+    match found {
+        StationResult::Running(_) => 255,
+        StationResult::Done { value, grade, flag } => pick(d, value, grade, flag),
+        StationResult::Refused(_) => 255,
     }
 }
 
@@ -201,7 +201,7 @@ pub(crate) fn write_outcomes(stations: [Station; 32], marks: u32, outcomes: &mut
         let i = k / 3;
         let s = stations[i];
         let bad = marks::is_marked(marks, i as u8);
-        outcomes[k] = outcome_byte(s, bad, k % 3);
+        outcomes[k] = station_byte(s, bad, k % 3);
         k += 1;
     }
 }

@@ -11,10 +11,10 @@ use Rattle.station.specs.declared.Station.{Station}
 use Rattle.station.specs.declared.Opened.{Opened}
 use Rattle.station.specs.declared.Told.{Told}
 use Rattle.station.specs.declared.Advanced.{Advanced}
-use Rattle.station.specs.declared.Outcome.{Outcome}
+use Rattle.station.specs.declared.StationResult.{StationResult}
 use Rattle.station.specs.Judgement.{station-verdict, telling-verdict, taking-verdict, opening-verdict}
-use Rattle.station.specs.Automaton.{setup-of, state-of, in-state, opened-station, as-outcome, outcome-of}
-use Rattle.station.specs.Answers.{bytes-of, opened-number, opened-values, opened-by, Opens, told-number, told-values, told-by, Tells, advanced-number, advanced-values, advanced-by, Advances, outcome-number, outcome-values, outcome-by, result-values, Results}
+use Rattle.station.specs.Automaton.{setup-of, state-of, in-state, opened-station, as-result, result-of}
+use Rattle.station.specs.Answers.{bytes-of, opened-number, opened-values, opened-by, Opens, told-number, told-values, told-by, Tells, advanced-number, advanced-values, advanced-by, Advances, result-number, result-values, result-by, automaton-values, Results}
 
 opened-case : (v : Verdict) (s : Station)
     → (opened-number (opened-by v s) ≡ code v) × (opened-values (opened-by v s) ≡ given v (bytes-of s))
@@ -47,14 +47,14 @@ advances s row r e =
     let (a, b) = advanced-case (taking-verdict s (length row)) (in-state s (advance (setup-of s) (state-of s) (at row))) in
     record { answer = e; number-is = ap advanced-number e ∙ a; values-are = ap advanced-values e ∙ b }
 
-outcome-case : (v : Verdict) (q : Result)
-    → (outcome-number (outcome-by v (as-outcome q)) ≡ code v) × (outcome-values (outcome-by v (as-outcome q)) ≡ given v (result-values q))
-outcome-case Accepted (running r) = (refl, refl)
-outcome-case Accepted (done v g f) = (refl, refl)
-outcome-case (Refused c) q = (refl, refl)
+result-case : (v : Verdict) (q : Result)
+    → (result-number (result-by v (as-result q)) ≡ code v) × (result-values (result-by v (as-result q)) ≡ given v (automaton-values q))
+result-case Accepted (running r) = (refl, refl)
+result-case Accepted (done v g f) = (refl, refl)
+result-case (Refused c) q = (refl, refl)
 
-pub results : (s : Station) (r : Outcome) → r ≡ outcome-by (station-verdict s) (outcome-of s) → Results s r
-unfolding outcome-of
+pub results : (s : Station) (r : StationResult) → r ≡ result-by (station-verdict s) (result-of s) → Results s r
+unfolding result-of
 results s r e =
-    let (a, b) = outcome-case (station-verdict s) (result (setup-of s) (state-of s)) in
-    record { answer = e; number-is = ap outcome-number e ∙ a; values-are = ap outcome-values e ∙ b }
+    let (a, b) = result-case (station-verdict s) (result (setup-of s) (state-of s)) in
+    record { answer = e; number-is = ap result-number e ∙ a; values-are = ap result-values e ∙ b }

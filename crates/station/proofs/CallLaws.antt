@@ -5,19 +5,18 @@ use mathlib.Core.List.{List}
 use native.Mathlib.Omega.{arith}
 use lib.ListN.{length}
 use borrow.Author.Tests.{eq-eqb, ltb-false}
-use Rattle.line.specs.Line.{rounds, most-stations, Fits}
-use Rattle.line.specs.Header.{station-count, thresholds, station-number, bit}
+use Rattle.line.specs.Line.{rounds, Fits}
+use Rattle.line.specs.Header.{station-number, bit}
 use Rattle.line.specs.declared.cause.Cause.the-variants.{StationState}
 use Rattle.line.specs.declared.cause.Verdict.{Verdict}
 use Rattle.line.specs.declared.cause.Verdict.the-variants.{Accepted, Refused}
-use Rattle.line.proofs.HeaderLaws.{both-accepted, accepted-false, refused-true, inside, fitting}
+use Rattle.line.proofs.HeaderLaws.{both-accepted, accepted-false, refused-true, inside, line-sound}
 use Rattle.broadcast.specs.Station.{advance, result, at, after}
 use Rattle.broadcast.proofs.RoundLaws.{after-range, after-round, done-after}
 use Rattle.station.specs.declared.Station.{Station}
-use Rattle.station.specs.declared.Outcome.{Outcome}
 use Rattle.station.specs.Judgement.{is-done, telling-verdict, taking-verdict, opening-verdict, Sound}
-use Rattle.station.specs.Automaton.{setup-of, state-of, in-state, opened-station, as-outcome, outcome-of}
-use Rattle.station.specs.Answers.{outcome-by, Results}
+use Rattle.station.specs.Automaton.{setup-of, state-of, in-state, opened-station, as-result, result-of}
+use Rattle.station.specs.Answers.{result-by, result-answer}
 use Rattle.station.specs.Theorems.{Opening, setup, state-after, station-after, InARow}
 use Rattle.station.proofs.SoundLaws.{sound-accepts, telling-accepts, taking-accepts}
 
@@ -32,17 +31,17 @@ record Opens-well (o : Opening) : Type 0 where
   value-bit : o .value ≤ 1
 
 opens-well : (o : Opening) → opening-verdict (o .n) (o .t) (o .T) (o .sender) (o .own) (o .value) ≡ Accepted → Opens-well o
-unfolding opening-verdict station-count thresholds station-number bit
+unfolding opening-verdict station-number bit
 opens-well o e =
     let (a, e₂) = both-accepted _ _ e in
-    let (b, e₃) = both-accepted _ _ e₂ in
-    let (c, e₄) = both-accepted _ _ e₃ in
-    let (d, f) = both-accepted _ _ e₄ in
+    let (c, e₃) = both-accepted _ _ e₂ in
+    let (d, f) = both-accepted _ _ e₃ in
+    let (some, most, fits) = line-sound (o .n) (o .t) (o .T) a in
     let sender = inside 1 (o .n) (o .sender) (accepted-false _ _ c) in
     let own = inside 1 (o .n) (o .own) (accepted-false _ _ d) in
     record {
-      most = inside 1 most-stations (o .n) (accepted-false _ _ a) .1;
-      fits = fitting (o .n) (o .t) (o .T) (accepted-false _ _ b);
+      most = most;
+      fits = fits;
       sender-low = sender .0;
       sender-high = sender .1;
       own-low = own .0;
@@ -105,17 +104,17 @@ module _ (o : Opening) (e : opening-verdict (o .n) (o .t) (o .T) (o .sender) (o 
   unfolding opened-station after
   opened-is = refl
 
-  shown : (m : ℕ) → m ≤ rounds (o .t) → (r : Outcome) → Results (S m) r → r ≡ as-outcome (result (setup o) (state-after o rows m))
-  unfolding outcome-of
-  shown m h r p = p .answer ∙ ap (λ (v : Verdict). outcome-by v (outcome-of (S m))) (sound-accepts (S m) (sound-after m h))
+  shown : (m : ℕ) → m ≤ rounds (o .t) → result-answer (S m) ≡ as-result (result (setup o) (state-after o rows m))
+  unfolding result-of
+  shown m h = ap (λ (v : Verdict). result-by v (result-of (S m))) (sound-accepts (S m) (sound-after m h))
 
   pub in-a-row : InARow o rows
   in-a-row = record {
-    opens = λ r p. p .answer ∙ rw (e, opened-is);
-    tells = λ m h r p. p .answer ∙ rw (telling m h);
-    advances = λ m h q r p. p .answer ∙ rw (taking m h q, stepped m);
-    running = λ m h r p. shown m (omega arith) r p ∙ ap as-outcome (done-after (setup o) (o .value) rows .running-before m h);
-    done = λ r p. shown (rounds (o .t)) (omega arith) r p ∙ ap as-outcome (done-after (setup o) (o .value) rows .done-after);
-    tells-no-more = λ r p. p .answer ∙ rw (done-telling (S (rounds (o .t))) (sound-after (rounds (o .t)) (omega arith)) last);
-    takes-no-more = λ row r p. p .answer ∙ rw (done-taking (S (rounds (o .t))) (length row) (sound-after (rounds (o .t)) (omega arith)) last);
+    opens = rw (e, opened-is);
+    tells = λ m h. rw (telling m h);
+    advances = λ m h q. rw (taking m h q, stepped m);
+    running = λ m h. shown m (omega arith) ∙ ap as-result (done-after (setup o) (o .value) rows .running-before m h);
+    done = shown (rounds (o .t)) (omega arith) ∙ ap as-result (done-after (setup o) (o .value) rows .done-after);
+    tells-no-more = rw (done-telling (S (rounds (o .t))) (sound-after (rounds (o .t)) (omega arith)) last);
+    takes-no-more = λ row. rw (done-taking (S (rounds (o .t))) (length row) (sound-after (rounds (o .t)) (omega arith)) last);
   }

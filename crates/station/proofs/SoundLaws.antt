@@ -6,22 +6,22 @@ use mathlib.Core.Logic.{_⊎_, inl, inr}
 use native.Mathlib.Omega.{arith}
 use lib.ListN.{length}
 use borrow.Author.Tests.{ltb-false, eqb-false, le-ltb, ne-eqb}
-use Rattle.line.specs.Line.{rounds, most-stations}
-use Rattle.line.specs.Header.{station-count, thresholds, station-number}
+use Rattle.line.specs.Line.{rounds}
+use Rattle.line.specs.Header.{station-number}
 use Rattle.line.specs.declared.cause.Verdict.the-variants.{Accepted}
 use Rattle.line.proofs.CountLaws.{le-or-lt}
 use Rattle.line.specs.Header as header
-use Rattle.line.proofs.HeaderLaws.{both-accepted, accepted-false, refused-false, neither, inside, inside-not, fitting, length-exact, count-accepts, thresholds-accept, number-accepts, bit-accepts, length-accepts}
+use Rattle.line.proofs.HeaderLaws.{both-accepted, accepted-false, refused-false, neither, inside, inside-not, line-sound, line-accepts, length-exact, number-accepts, bit-accepts, length-accepts}
 use Rattle.station.specs.declared.Station.{Station}
 use Rattle.station.specs.Judgement.{foreign-state, is-done, state-verdict, station-verdict, telling-verdict, taking-verdict, opening-verdict, Sound, Ready}
 
 pub sound : (s : Station) → station-verdict s ≡ Accepted → Sound s
-unfolding station-verdict station-count thresholds station-number state-verdict foreign-state
+unfolding station-verdict station-number state-verdict foreign-state
 sound s e =
     let (a, e₂) = both-accepted _ _ e in
-    let (b, e₃) = both-accepted _ _ e₂ in
-    let (c, e₄) = both-accepted _ _ e₃ in
-    let (d, f) = both-accepted _ _ e₄ in
+    let (c, e₃) = both-accepted _ _ e₂ in
+    let (d, f) = both-accepted _ _ e₃ in
+    let (some, most, fits) = line-sound (s .n) (s .t) (s .upper) a in
     let (r, f₂) = neither _ _ (accepted-false _ _ f) in
     let (v, f₃) = neither _ _ f₂ in
     let (z, g) = neither _ _ f₃ in
@@ -29,8 +29,8 @@ sound s e =
     let own = inside 1 (s .n) (s .own) (accepted-false _ _ d) in
     let round = inside 1 (rounds (s .t) + 1) (s .round) r in
     record {
-      most = inside 1 most-stations (s .n) (accepted-false _ _ a) .1;
-      fits = fitting (s .n) (s .t) (s .upper) (accepted-false _ _ b);
+      most = most;
+      fits = fits;
       sender-low = sender .0;
       sender-high = sender .1;
       own-low = own .0;
@@ -69,7 +69,7 @@ ready s row e =
 pub sound-accepts : (s : Station) → Sound s → station-verdict s ≡ Accepted
 unfolding station-verdict state-verdict foreign-state
 sound-accepts s h =
-    rw (count-accepts (s .n) (omega (arith, h .fits)) (h .most), thresholds-accept (s .n) (s .t) (s .upper) (h .fits), number-accepts (s .n) (s .sender) (h .sender-low) (h .sender-high), number-accepts (s .n) (s .own) (h .own-low) (h .own-high), inside-not 1 (rounds (s .t) + 1) (s .round) (h .round-low) (h .round-high), le-ltb 1 (s .value) (h .value-bit), le-ltb 2 (s .z) (h .z-high), le-ltb 2 (s .grade) (h .grade-high))
+    rw (line-accepts (s .n) (s .t) (s .upper) (h .most) (h .fits), number-accepts (s .n) (s .sender) (h .sender-low) (h .sender-high), number-accepts (s .n) (s .own) (h .own-low) (h .own-high), inside-not 1 (rounds (s .t) + 1) (s .round) (h .round-low) (h .round-high), le-ltb 1 (s .value) (h .value-bit), le-ltb 2 (s .z) (h .z-high), le-ltb 2 (s .grade) (h .grade-high))
     (refused-false _ refl)
 
 pub telling-accepts : (s : Station) → Sound s → s .round ≤ rounds (s .t) → telling-verdict s ≡ Accepted
@@ -85,7 +85,7 @@ pub opening-accepts : (n t T sender own value marks : ℕ) → header.Sound n t 
     → opening-verdict n t T sender own value ≡ Accepted
 unfolding opening-verdict
 opening-accepts n t T sender own value marks h a b =
-    rw (count-accepts n (h .some) (h .most), thresholds-accept n t T (h .fits), number-accepts n sender (h .sender-low) (h .sender-high), number-accepts n own a b, bit-accepts value (h .value-bit))
+    rw (line-accepts n t T (h .most) (h .fits), number-accepts n sender (h .sender-low) (h .sender-high), number-accepts n own a b, bit-accepts value (h .value-bit))
 
 -- ---- small facts
 

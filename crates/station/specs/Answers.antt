@@ -15,10 +15,10 @@ use Rattle.station.specs.declared.Told.{Told}
 use Rattle.station.specs.declared.Told.the-variants as told
 use Rattle.station.specs.declared.Advanced.{Advanced}
 use Rattle.station.specs.declared.Advanced.the-variants as advanced
-use Rattle.station.specs.declared.Outcome.{Outcome}
-use Rattle.station.specs.declared.Outcome.the-variants as outcome
+use Rattle.station.specs.declared.StationResult.{StationResult}
+use Rattle.station.specs.declared.StationResult.the-variants as station-result
 use Rattle.station.specs.Judgement.{station-verdict, telling-verdict, taking-verdict, opening-verdict}
-use Rattle.station.specs.Automaton.{setup-of, state-of, in-state, opened-station, outcome-of}
+use Rattle.station.specs.Automaton.{setup-of, state-of, in-state, opened-station, result-of}
 
 -- ---- opening
 
@@ -39,8 +39,12 @@ abbrev pub opened-by : Verdict → Station → Opened
 opened-by verdict.Accepted s = opened.Ready s
 opened-by (verdict.Refused c) s = opened.Refused c
 
+-- what `open` answers
+abbrev pub open-answer : ℕ → ℕ → ℕ → ℕ → ℕ → ℕ → Opened
+open-answer n t T sender own value = opened-by (opening-verdict n t T sender own value) (opened-station n t T sender own value)
+
 pub record Opens (n t T sender own value : ℕ) (r : Opened) : Type 0 where
-  pub answer : r ≡ opened-by (opening-verdict n t T sender own value) (opened-station n t T sender own value)
+  pub answer : r ≡ open-answer n t T sender own value
   pub number-is : opened-number r ≡ code (opening-verdict n t T sender own value)
   pub values-are : opened-values r ≡ given (opening-verdict n t T sender own value) (bytes-of (opened-station n t T sender own value))
 
@@ -58,8 +62,12 @@ abbrev pub told-by : Verdict → ℕ → Told
 told-by verdict.Accepted b = told.Ballot b
 told-by (verdict.Refused c) b = told.Refused c
 
+-- what `ballot` answers
+abbrev pub ballot-answer : Station → Told
+ballot-answer s = told-by (telling-verdict s) (ballot (setup-of s) (state-of s))
+
 pub record Tells (s : Station) (r : Told) : Type 0 where
-  pub answer : r ≡ told-by (telling-verdict s) (ballot (setup-of s) (state-of s))
+  pub answer : r ≡ ballot-answer s
   pub number-is : told-number r ≡ code (telling-verdict s)
   pub values-are : told-values r ≡ given (telling-verdict s) (ballot (setup-of s) (state-of s) ∷ [])
 
@@ -77,34 +85,42 @@ abbrev pub advanced-by : Verdict → Station → Advanced
 advanced-by verdict.Accepted s = advanced.Next s
 advanced-by (verdict.Refused c) s = advanced.Refused c
 
+-- what `advance` answers
+abbrev pub advance-answer : Station → List ℕ → Advanced
+advance-answer s row = advanced-by (taking-verdict s (length row)) (in-state s (advance (setup-of s) (state-of s) (at row)))
+
 pub record Advances (s : Station) (row : List ℕ) (r : Advanced) : Type 0 where
-  pub answer : r ≡ advanced-by (taking-verdict s (length row)) (in-state s (advance (setup-of s) (state-of s) (at row)))
+  pub answer : r ≡ advance-answer s row
   pub number-is : advanced-number r ≡ code (taking-verdict s (length row))
   pub values-are : advanced-values r
       ≡ given (taking-verdict s (length row)) (bytes-of (in-state s (advance (setup-of s) (state-of s) (at row))))
 
 -- ---- the result
 
-abbrev pub outcome-number : Outcome → ℕ
-outcome-number (outcome.Running r) = 0
-outcome-number (outcome.Done v g f) = 0
-outcome-number (outcome.Refused c) = number c
+abbrev pub result-number : StationResult → ℕ
+result-number (station-result.Running r) = 0
+result-number (station-result.Done v g f) = 0
+result-number (station-result.Refused c) = number c
 
-abbrev pub outcome-values : Outcome → List ℕ
-outcome-values (outcome.Running r) = r ∷ []
-outcome-values (outcome.Done v g f) = v ∷ g ∷ f ∷ []
-outcome-values (outcome.Refused c) = []
+abbrev pub result-values : StationResult → List ℕ
+result-values (station-result.Running r) = r ∷ []
+result-values (station-result.Done v g f) = v ∷ g ∷ f ∷ []
+result-values (station-result.Refused c) = []
 
-abbrev pub outcome-by : Verdict → Outcome → Outcome
-outcome-by verdict.Accepted o = o
-outcome-by (verdict.Refused c) o = outcome.Refused c
+abbrev pub result-by : Verdict → StationResult → StationResult
+result-by verdict.Accepted o = o
+result-by (verdict.Refused c) o = station-result.Refused c
 
 -- the automaton's result in values
-abbrev pub result-values : Result → List ℕ
-result-values (running r) = r ∷ []
-result-values (done v g f) = v ∷ g ∷ f ∷ []
+abbrev pub automaton-values : Result → List ℕ
+automaton-values (running r) = r ∷ []
+automaton-values (done v g f) = v ∷ g ∷ f ∷ []
 
-pub record Results (s : Station) (r : Outcome) : Type 0 where
-  pub answer : r ≡ outcome-by (station-verdict s) (outcome-of s)
-  pub number-is : outcome-number r ≡ code (station-verdict s)
-  pub values-are : outcome-values r ≡ given (station-verdict s) (result-values (result (setup-of s) (state-of s)))
+-- what `result` answers
+abbrev pub result-answer : Station → StationResult
+result-answer s = result-by (station-verdict s) (result-of s)
+
+pub record Results (s : Station) (r : StationResult) : Type 0 where
+  pub answer : r ≡ result-answer s
+  pub number-is : result-number r ≡ code (station-verdict s)
+  pub values-are : result-values r ≡ given (station-verdict s) (automaton-values (result (setup-of s) (state-of s)))

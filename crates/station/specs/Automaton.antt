@@ -1,19 +1,21 @@
 -- The station's struct as the automaton of crate broadcast: what stays (Setup) and what changes (State). The struct numbers stations from 1, the
 -- automaton from 0.
-use Prim.Native.Nat.{ℕ, _-_}
+use Prim.Native.Nat.{ℕ}
 use mathlib.Core.List.{List}
 use lib.ListN.{length}
+use Rattle.line.specs.Line.{from-0}
 use Rattle.line.specs.Ballot.{silence}
 use Rattle.line.specs.declared.cause.Verdict.{Verdict}
 use Rattle.line.specs.declared.cause.Verdict.the-variants.{Accepted, Refused}
 use Rattle.broadcast.specs.Station.{Setup, State, opened, ballot, advance, Result, running, done, result, at}
 use Rattle.station.specs.declared.Station.{Station}
-use Rattle.station.specs.declared.Outcome.{Outcome}
-use Rattle.station.specs.declared.Outcome.the-variants.{Running, Done}
+use Rattle.station.specs.declared.StationResult.{StationResult}
+use Rattle.station.specs.declared.StationResult.the-variants.{Running, Done}
 use Rattle.station.specs.Judgement.{telling-verdict, taking-verdict}
 
 abbrev pub setup-of : Station → Setup
-setup-of s = record { n = s .n; t = s .t; T = s .upper; sender = s .sender - 1; own = s .own - 1 }
+setup-of s =
+    record { n = s .n; t = s .t; T = s .upper; sender-from-0 = from-0 (s .sender); own-from-0 = from-0 (s .own) }
 
 abbrev pub state-of : Station → State
 state-of s = record { round = s .round; value = s .value; z = s .z; grade = s .grade }
@@ -50,12 +52,12 @@ unfoldable pub opened-station : ℕ → ℕ → ℕ → ℕ → ℕ → ℕ → 
 opened-station n t T sender own value = station-in n t T sender own (opened value)
 
 -- the automaton's result as the call's answer
-abbrev pub as-outcome : Result → Outcome
-as-outcome (running r) = Running r
-as-outcome (done v g f) = Done v g f
+abbrev pub as-result : Result → StationResult
+as-result (running r) = Running r
+as-result (done v g f) = Done v g f
 
-unfoldable pub outcome-of : Station → Outcome
-outcome-of s = as-outcome (result (setup-of s) (state-of s))
+unfoldable pub result-of : Station → StationResult
+result-of s = as-result (result (setup-of s) (state-of s))
 
 -- the ballot, silence where it is refused
 abbrev pub spoken-if : Verdict → ℕ → ℕ

@@ -7,7 +7,7 @@ use lib.Dec.{ltb, eqb}
 use lib.ListN.{length}
 use Rattle.line.specs.Line.{Fits, rounds}
 use Rattle.line.specs.Cause.{refused-if, _or-else_}
-use Rattle.line.specs.Header.{outside, station-count, thresholds, station-number, bit, exact-length}
+use Rattle.line.specs.Header.{outside, line-verdict, station-number, bit, exact-length}
 use Rattle.line.specs.declared.cause.Cause.the-variants.{StationState}
 use Rattle.line.specs.declared.cause.Verdict.{Verdict}
 use Rattle.station.specs.declared.Station.{Station}
@@ -26,8 +26,7 @@ is-done t round = eqb round (rounds t + 1)
 -- of any station: 2, 3, 4 for the sender and the own number, 7
 unfoldable pub station-verdict : Station → Verdict
 station-verdict s =
-    station-count (s .n)
-    or-else thresholds (s .n) (s .t) (s .upper)
+    line-verdict (s .n) (s .t) (s .upper)
     or-else station-number (s .n) (s .sender)
     or-else station-number (s .n) (s .own)
     or-else state-verdict s
@@ -36,15 +35,14 @@ station-verdict s =
 unfoldable pub telling-verdict : Station → Verdict
 telling-verdict s = station-verdict s or-else refused-if (is-done (s .t) (s .round)) StationState
 
--- of a row: 8
+-- of a row, by its length: 8
 unfoldable pub taking-verdict : Station → ℕ → Verdict
-taking-verdict s row = telling-verdict s or-else exact-length (s .n) row
+taking-verdict s row-size = telling-verdict s or-else exact-length (s .n) row-size
 
 -- of what a station is opened with: 2, 3, 4, 5
 unfoldable pub opening-verdict : ℕ → ℕ → ℕ → ℕ → ℕ → ℕ → Verdict
 opening-verdict n t T sender own value =
-    station-count n
-    or-else thresholds n t T
+    line-verdict n t T
     or-else station-number n sender
     or-else station-number n own
     or-else bit value

@@ -1,25 +1,21 @@
--- What is shown of the promises: a station's calls in a row. The statement has a name here, and proofs/Theorems.antt has the law that proves it.
-use Prim.Native.Nat.{ℕ, suc, _+_, _-_, _<_}
+-- What is shown of the calls' answers: a station's calls in a row. The statement has a name here, and proofs/Theorems.antt has the law that proves it.
+use Prim.Native.Nat.{ℕ, suc, _+_, _<_}
 use mathlib.Core.Path.{_≡_}
 use mathlib.Core.List.{List}
 use lib.ListN.{length}
-use Rattle.line.specs.Line.{rounds}
+use Rattle.line.specs.Line.{from-0, rounds}
 use Rattle.line.specs.declared.cause.Cause.the-variants.{StationState}
 use Rattle.line.specs.declared.cause.Verdict.the-variants.{Accepted}
 use Rattle.broadcast.specs.Exchange.{flag-of}
 use Rattle.broadcast.specs.Station.{Setup, State, ballot, after}
 use Rattle.station.specs.declared.Station.{Station}
-use Rattle.station.specs.declared.Opened.{Opened}
 use Rattle.station.specs.declared.Opened.the-variants as opened
-use Rattle.station.specs.declared.Told.{Told}
 use Rattle.station.specs.declared.Told.the-variants as told
-use Rattle.station.specs.declared.Advanced.{Advanced}
 use Rattle.station.specs.declared.Advanced.the-variants as advanced
-use Rattle.station.specs.declared.Outcome.{Outcome}
-use Rattle.station.specs.declared.Outcome.the-variants as outcome
+use Rattle.station.specs.declared.StationResult.the-variants as station-result
 use Rattle.station.specs.Judgement.{opening-verdict}
 use Rattle.station.specs.Automaton.{station-in}
-use Rattle.station.specs.Answers.{Opens, Tells, Advances, Results}
+use Rattle.station.specs.Answers.{open-answer, ballot-answer, advance-answer, result-answer}
 
 -- what a station is opened with
 pub record Opening : Type 0 where
@@ -32,7 +28,7 @@ pub record Opening : Type 0 where
 
 -- it as the automaton's setup, and the automaton's state after m of these rows
 abbrev pub setup : Opening → Setup
-setup o = record { n = o .n; t = o .t; T = o .T; sender = o .sender - 1; own = o .own - 1 }
+setup o = record { n = o .n; t = o .t; T = o .T; sender-from-0 = from-0 (o .sender); own-from-0 = from-0 (o .own) }
 
 abbrev pub state-after : Opening → (ℕ → List ℕ) → ℕ → State
 state-after o rows m = after (setup o) (o .value) rows m
@@ -41,22 +37,21 @@ state-after o rows m = after (setup o) (o .value) rows m
 abbrev pub station-after : Opening → (ℕ → List ℕ) → ℕ → Station
 station-after o rows m = station-in (o .n) (o .t) (o .T) (o .sender) (o .own) (state-after o rows m)
 
--- Each call by what it promises of its answer r. The rows are those of rounds 1, 2, ..; only such of n bytes are taken.
+-- What the calls answer, one after another. The rows are those of rounds 1, 2, ..; only such of n bytes are taken.
 pub record InARow (o : Opening) (rows : ℕ → List ℕ) : Type 0 where
   -- it is opened
-  pub opens : (r : Opened) → Opens (o .n) (o .t) (o .T) (o .sender) (o .own) (o .value) r → r ≡ opened.Ready (station-after o rows 0)
+  pub opens : open-answer (o .n) (o .t) (o .T) (o .sender) (o .own) (o .value) ≡ opened.Ready (station-after o rows 0)
   -- in each round it tells its ballot and takes its row
-  pub tells : (m : ℕ) → m < rounds (o .t) → (r : Told) → Tells (station-after o rows m) r
-      → r ≡ told.Ballot (ballot (setup o) (state-after o rows m))
-  pub advances : (m : ℕ) → m < rounds (o .t) → length (rows (suc m)) ≡ o .n → (r : Advanced) → Advances (station-after o rows m) (rows (suc m)) r
-      → r ≡ advanced.Next (station-after o rows (suc m))
+  pub tells : (m : ℕ) → m < rounds (o .t) → ballot-answer (station-after o rows m) ≡ told.Ballot (ballot (setup o) (state-after o rows m))
+  pub advances : (m : ℕ) → m < rounds (o .t) → length (rows (suc m)) ≡ o .n
+      → advance-answer (station-after o rows m) (rows (suc m)) ≡ advanced.Next (station-after o rows (suc m))
   -- "It is done after exactly R accepted rows."
-  pub running : (m : ℕ) → m < rounds (o .t) → (r : Outcome) → Results (station-after o rows m) r → r ≡ outcome.Running (m + 1)
-  pub done : (r : Outcome) → Results (station-after o rows (rounds (o .t))) r
-      → let s = state-after o rows (rounds (o .t)) in r ≡ outcome.Done (s .value) (s .grade) (flag-of (s .grade))
+  pub running : (m : ℕ) → m < rounds (o .t) → result-answer (station-after o rows m) ≡ station-result.Running (m + 1)
+  pub done : let s = state-after o rows (rounds (o .t)) in
+      result-answer (station-after o rows (rounds (o .t))) ≡ station-result.Done (s .value) (s .grade) (flag-of (s .grade))
   -- and refuses by 7 what is wanted of it then, whatever the row's length
-  pub tells-no-more : (r : Told) → Tells (station-after o rows (rounds (o .t))) r → r ≡ told.Refused StationState
-  pub takes-no-more : (row : List ℕ) (r : Advanced) → Advances (station-after o rows (rounds (o .t))) row r → r ≡ advanced.Refused StationState
+  pub tells-no-more : ballot-answer (station-after o rows (rounds (o .t))) ≡ told.Refused StationState
+  pub takes-no-more : (row : List ℕ) → advance-answer (station-after o rows (rounds (o .t))) row ≡ advanced.Refused StationState
 
 -- a station that is opened with accepted numbers is never refused, on any rows of n bytes, before it is done
 abbrev pub Calls-in-a-row : Type 0

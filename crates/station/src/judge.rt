@@ -56,12 +56,16 @@ fn state(s: Station) -> Verdict
 pub(crate) fn station(s: Station) -> Verdict
     ensures { λ r. ⌜ r ≡ station-verdict s ⌝ }
 {
-    let a = header::station_count(s.n);
-    let b = header::thresholds(s.n, s.t, s.upper);
-    let c = header::station_number(s.n, s.sender);
-    let d = header::station_number(s.n, s.own);
-    let e = state(s);
-    a.or_else(b.or_else(c.or_else(d.or_else(e))))
+    let line = Line {
+        n: s.n,
+        t: s.t,
+        upper: s.upper,
+    };
+    let a = header::line_verdict(line);
+    let b = header::station_number(s.n, s.sender);
+    let c = header::station_number(s.n, s.own);
+    let d = state(s);
+    a.or_else(b.or_else(c.or_else(d)))
 }
 
 // .. and 7 where a ballot is wanted of a done station.
@@ -74,11 +78,11 @@ pub(crate) fn telling(s: Station) -> Verdict
 }
 
 // .. and 8 for a row of another length than n.
-pub(crate) fn taking(s: Station, row: usize) -> Verdict
-    ensures { λ r. ⌜ r ≡ taking-verdict s row ⌝ }
+pub(crate) fn taking(s: Station, row_len: usize) -> Verdict
+    ensures { λ r. ⌜ r ≡ taking-verdict s «row_len» ⌝ }
 {
     let a = telling(s);
-    let b = header::exact_length(s.n as usize, row);
+    let b = header::exact_length(s.n as usize, row_len);
     a.or_else(b)
 }
 
@@ -86,10 +90,9 @@ pub(crate) fn taking(s: Station, row: usize) -> Verdict
 pub(crate) fn opening(n: u8, t: u8, upper: u8, sender: u8, own: u8, value: u8) -> Verdict
     ensures { λ r. ⌜ r ≡ opening-verdict n t upper sender own value ⌝ }
 {
-    let a = header::station_count(n);
-    let b = header::thresholds(n, t, upper);
-    let c = header::station_number(n, sender);
-    let d = header::station_number(n, own);
-    let e = header::bit(value);
-    a.or_else(b.or_else(c.or_else(d.or_else(e))))
+    let a = header::line_verdict(Line { n, t, upper });
+    let b = header::station_number(n, sender);
+    let c = header::station_number(n, own);
+    let d = header::bit(value);
+    a.or_else(b.or_else(c.or_else(d)))
 }

@@ -44,7 +44,7 @@ pub enum Advanced {
 }
 
 // The answer to asking for the result.
-pub enum Outcome {
+pub enum StationResult {
     Running(u8),
     Done { value: u8, grade: u8, flag: u8 },
     Refused(Cause),
@@ -84,13 +84,13 @@ pub fn advance(s: Station, row: &[u8]) -> Advanced
 }
 
 // Running with its round, or done with value, grade and flag.
-pub fn result(s: Station) -> Outcome
+pub fn result(s: Station) -> StationResult
     ensures { λ r. ⌜ Results s r ⌝ }
 {
     let verdict = judge::station(s);
     match verdict {
-        Verdict::Accepted => step::outcome(s),
-        Verdict::Refused(c) => Outcome::Refused(c),
+        Verdict::Accepted => step::result(s),
+        Verdict::Refused(c) => StationResult::Refused(c),
     }
 }
 

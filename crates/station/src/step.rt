@@ -4,10 +4,10 @@ ghost use Prim.Native.Nat.{ℕ, _+_, _-_, _*_, _/_, _%_, _≤_, _<_};
 ghost use lib.ListN.{length};
 ghost use Rattle.broadcast.specs.Broadcast.{obey, from-sender, first-of, second-of, from-king};
 ghost use Rattle.broadcast.specs.Station.{ballot, next, taken, advance, at};
-ghost use Rattle.station.specs.Automaton.{setup-of, state-of, in-state, opened-station, outcome-of};
+ghost use Rattle.station.specs.Automaton.{setup-of, state-of, in-state, opened-station, result-of};
 ghost use Rattle.station.specs.Judgement.{Sound, Ready};
-use crate::Outcome;
 use crate::Station;
+use crate::StationResult;
 use crate::judge;
 use exchange::tally;
 use line::Line;
@@ -138,17 +138,17 @@ pub(crate) fn step(s: Station, row: &[u8]) -> Station
 }
 
 // The result.
-pub(crate) fn outcome(s: Station) -> Outcome
-    ensures { λ r. ⌜ r ≡ outcome-of s ⌝ }
+pub(crate) fn result(s: Station) -> StationResult
+    ensures { λ r. ⌜ r ≡ result-of s ⌝ }
 {
     if judge::is_done(s.t, s.round) {
         let flag = tally::flag(s.grade);
-        Outcome::Done {
+        StationResult::Done {
             value: s.value,
             grade: s.grade,
             flag,
         }
     } else {
-        Outcome::Running(s.round)
+        StationResult::Running(s.round)
     }
 }

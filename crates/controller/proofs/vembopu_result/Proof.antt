@@ -10,8 +10,8 @@ station-requires c κs = search needs
 result-requires : tie.Need-result-requires
 result-requires c κs = search needs
 
-enum-known-outcome : tie.Need-enum-known-outcome
-enum-known-outcome c = search needs
+enum-known-found : tie.Need-enum-known-found
+enum-known-found c = search needs
 
 four-requires : tie.Need-four-requires
 four-requires c κs = search needs
@@ -19,8 +19,8 @@ four-requires c κs = search needs
 answer-requires : tie.Need-answer-requires
 answer-requires c κs = search needs
 
-enum-known-outcome-2 : tie.Need-enum-known-outcome-2
-enum-known-outcome-2 c = search needs
+enum-known-found-2 : tie.Need-enum-known-found-2
+enum-known-found-2 c = search needs
 
 four-requires-2 : tie.Need-four-requires-2
 four-requires-2 c κs = search needs
@@ -28,8 +28,8 @@ four-requires-2 c κs = search needs
 answer-requires-2 : tie.Need-answer-requires-2
 answer-requires-2 c κs = search needs
 
-enum-known-outcome-3 : tie.Need-enum-known-outcome-3
-enum-known-outcome-3 c = search needs
+enum-known-found-3 : tie.Need-enum-known-found-3
+enum-known-found-3 c = search needs
 
 number-requires : tie.Need-number-requires
 number-requires c κs = search needs
@@ -40,17 +40,17 @@ answer-requires-3 c κs = search needs
 returns : tie.Need-returns
 returns c =
     result-answer _ _ _ _ _ _ _ _ (c .before .before .before .before .before .before .station .ensures) _ (c .before .before .before .before .before .result .ensures)
-    (rw (c .before .before .before .outcome .given .1, ← c .before .four .ensures) (c .answer .ensures))
+    (rw (c .before .before .before .found .given .1, ← c .before .four .ensures) (c .answer .ensures))
 
 returns-2 : tie.Need-returns-2
 returns-2 c =
     result-answer _ _ _ _ _ _ _ _ (c .before .before .before .before .before .before .station .ensures) _ (c .before .before .before .before .before .result .ensures)
-    (rw (c .before .before .before .outcome2 .given .1, ← c .before .four2 .ensures) (c .answer2 .ensures))
+    (rw (c .before .before .before .found2 .given .1, ← c .before .four2 .ensures) (c .answer2 .ensures))
 
 returns-3 : tie.Need-returns-3
 returns-3 c =
     result-answer _ _ _ _ _ _ _ _ (c .before .before .before .before .before .before .station .ensures) _ (c .before .before .before .before .before .result .ensures)
-    (rw (c .before .before .before .outcome3 .given .1, ← c .before .number .ensures) (c .answer3 .ensures))
+    (rw (c .before .before .before .found3 .given .1, ← c .before .number .ensures) (c .answer3 .ensures))
 
 pub vembopu-result-spec : {M : Type 1} → statement M
 vembopu-result-spec =
@@ -58,13 +58,13 @@ vembopu-result-spec =
     (tie.spec
     station-requires
     result-requires
-    enum-known-outcome
+    enum-known-found
     four-requires
     answer-requires
-    enum-known-outcome-2
+    enum-known-found-2
     four-requires-2
     answer-requires-2
-    enum-known-outcome-3
+    enum-known-found-3
     number-requires
     answer-requires-3
     returns

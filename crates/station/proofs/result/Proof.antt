@@ -10,14 +10,14 @@ station-requires c κs = search needs
 enum-told : tie.Need-enum-told
 enum-told c = search needs
 
-outcome-requires : tie.Need-outcome-requires
-outcome-requires c κs = search needs
+result-requires : tie.Need-result-requires
+result-requires c κs = search needs
 
 enum-known-verdict : tie.Need-enum-known-verdict
 enum-known-verdict c = search needs
 
 returns : tie.Need-returns
-returns c = results _ _ (rw (← c .before .before .before .station .ensures, c .before .enum-told .given .1, c .outcome .ensures))
+returns c = results _ _ (rw (← c .before .before .before .station .ensures, c .before .enum-told .given .1, c .result .ensures))
 
 returns-2 : tie.Need-returns-2
 returns-2 c = results _ _ (rw (← c .before .before .before .station .ensures, c .before .verdict .given .1))
@@ -25,4 +25,4 @@ returns-2 c = results _ _ (rw (← c .before .before .before .station .ensures, 
 pub result-spec : {M : Type 1} → statement M
 result-spec =
     tie.close
-    (tie.spec station-requires enum-told outcome-requires enum-known-verdict returns returns-2)
+    (tie.spec station-requires enum-told result-requires enum-known-verdict returns returns-2)

@@ -7,13 +7,13 @@ use native.Mathlib.Nat.{le-refl}
 use lib.ListN.{length, getD, length-set, take, drop}
 use Rattle.line.specs.Marks.{marked}
 use Rattle.station.specs.declared.Station.{Station}
-use Rattle.rehearsal.specs.Loops.{blank-station, stepped, Stepped-all}
+use Rattle.rehearsal.specs.Loops.{no-station, stepped, Stepped-all}
 use Rattle.rehearsal.proofs.ArrayLaws.{stepped-none, stepped-turn, put-later}
 use Rattle.rehearsal.proofs.play.step_all.Statement.{statement}
 use Rattle.rehearsal.proofs.play.step_all.Tie as tie
 
 abbrev Inv-loop : tie.InvT-loop
-Inv-loop rows marks n next₀ j₀ next j = (j ≤ n) × (length next ≡ 32) × Stepped-all next₀ rows marks n j next × ((k : ℕ) → j ≤ k → getD next k blank-station ≡ getD next₀ k blank-station)
+Inv-loop rows marks n next₀ j₀ next j = (j ≤ n) × (length next ≡ 32) × Stepped-all next₀ rows marks n j next × ((k : ℕ) → j ≤ k → getD next k no-station ≡ getD next₀ k no-station)
 
 abbrev μ-loop : tie.MeasureT-loop
 μ-loop rows marks n next₀ j₀ next j = n - j

@@ -31,8 +31,8 @@ cast-is-marked c = search needs
 is-marked-requires : tie.Need-is-marked-requires Inv-loop μ-loop
 is-marked-requires c κs = search needs
 
-outcome-byte-requires : tie.Need-outcome-byte-requires Inv-loop μ-loop
-outcome-byte-requires c κs = search needs
+station-byte-requires : tie.Need-station-byte-requires Inv-loop μ-loop
+station-byte-requires c κs = search needs
 
 slice-write-outcomes : tie.Need-slice-write-outcomes Inv-loop μ-loop
 slice-write-outcomes c = search needs
@@ -47,7 +47,7 @@ loop-again : tie.Need-loop-again Inv-loop μ-loop
 unfolding outcome-at
 loop-again c =
     let a = c .before .before .before .before in
-    (omega arith, simp length-set (a .loop .inv .1), front-turn _ _ (a .loop .k) (a .loop .outcomes) _ (a .loop .inv .2) (rw (c .before .is-marked .ensures) at (c .outcome-byte .ensures)))
+    (omega arith, simp length-set (a .loop .inv .1), front-turn _ _ (a .loop .k) (a .loop .outcomes) _ (a .loop .inv .2) (rw (c .before .is-marked .ensures) at (c .station-byte .ensures)))
 
 same-length : tie.Need-same-length Inv-loop μ-loop
 same-length c = c .before .loop .inv .1
@@ -69,7 +69,7 @@ write-outcomes-spec =
     array-copy-out-s
     cast-is-marked
     is-marked-requires
-    outcome-byte-requires
+    station-byte-requires
     slice-write-outcomes
     add-k
     loop-less

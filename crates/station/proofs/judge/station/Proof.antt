@@ -4,11 +4,8 @@ use Rattle.station.specs.Judgement.{station-verdict}
 use Rattle.station.proofs.judge.station.Statement.{statement}
 use Rattle.station.proofs.judge.station.Tie as tie
 
-station-count-requires : tie.Need-station-count-requires
-station-count-requires c κs = search needs
-
-thresholds-requires : tie.Need-thresholds-requires
-thresholds-requires c κs = search needs
+line-verdict-requires : tie.Need-line-verdict-requires
+line-verdict-requires c κs = search needs
 
 station-number-requires : tie.Need-station-number-requires
 station-number-requires c κs = search needs
@@ -28,9 +25,6 @@ or-else-requires-2 c κs = search needs
 or-else-requires-3 : tie.Need-or-else-requires-3
 or-else-requires-3 c κs = search needs
 
-or-else-requires-4 : tie.Need-or-else-requires-4
-or-else-requires-4 c κs = search needs
-
 returns : tie.Need-returns
 unfolding station-verdict
 returns c = cc
@@ -39,13 +33,11 @@ pub station-spec : {M : Type 1} → statement M
 station-spec =
     tie.close
     (tie.spec
-    station-count-requires
-    thresholds-requires
+    line-verdict-requires
     station-number-requires
     station-number-requires-2
     state-requires
     or-else-requires
     or-else-requires-2
     or-else-requires-3
-    or-else-requires-4
     returns)

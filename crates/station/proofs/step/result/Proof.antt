@@ -1,11 +1,11 @@
--- `step::outcome` meets its contract: done exactly after R rows.
+-- `step::result` meets its contract: done exactly after R rows.
 use borrow.Author.Needs.{needs}
 use mathlib.Core.Path.{sym, _∙_}
 use Rattle.broadcast.specs.Station.{result}
-use Rattle.station.specs.Automaton.{outcome-of}
+use Rattle.station.specs.Automaton.{result-of}
 use Rattle.station.specs.Judgement.{is-done}
-use Rattle.station.proofs.step.outcome.Statement.{statement}
-use Rattle.station.proofs.step.outcome.Tie as tie
+use Rattle.station.proofs.step.result.Statement.{statement}
+use Rattle.station.proofs.step.result.Tie as tie
 
 is-done-requires : tie.Need-is-done-requires
 is-done-requires c κs = search needs
@@ -14,12 +14,12 @@ flag-requires : tie.Need-flag-requires
 flag-requires c κs = search needs
 
 returns : tie.Need-returns
-unfolding outcome-of result is-done
+unfolding result-of result is-done
 returns c = rw (sym (c .before .before .is-done .ensures) ∙ c .before .if1 .taken, c .flag .ensures)
 
 returns-2 : tie.Need-returns-2
-unfolding outcome-of result is-done
+unfolding result-of result is-done
 returns-2 c = rw (sym (c .before .is-done .ensures) ∙ c .if1 .left)
 
-pub outcome-spec : {M : Type 1} → statement M
-outcome-spec = tie.close (tie.spec is-done-requires flag-requires returns returns-2)
+pub result-spec : {M : Type 1} → statement M
+result-spec = tie.close (tie.spec is-done-requires flag-requires returns returns-2)
