@@ -3,4 +3,5 @@ pub mod WritingLaws
 pub mod ArrayLaws
 pub mod PostLaws
 pub mod RunLaws
+pub mod CallLaws
 pub mod PromiseLaws

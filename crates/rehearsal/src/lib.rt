@@ -17,16 +17,16 @@ fn judge(
     sender: u8,
     value: u8,
     marks: u32,
-    table: usize,
-    log: usize,
-    outcomes: usize,
+    table_len: usize,
+    log_len: usize,
+    outcomes_len: usize,
 ) -> Verdict
-    ensures { λ r. ⌜ r ≡ rehearsal-verdict (line .n) (line .t) (line .upper) sender value marks table log outcomes ⌝ }
+    ensures { λ r. ⌜ r ≡ rehearsal-verdict (line .n) (line .t) (line .upper) sender value marks «table_len» «log_len» «outcomes_len» ⌝ }
 {
     let a = header::header_verdict(line, sender, value, marks);
-    let b = header::exact_length(line.table_len(), table);
-    let c = header::exact_length(line.table_len(), log);
-    let d = header::exact_length(line.outcomes_len(), outcomes);
+    let b = header::exact_length(line.table_len(), table_len);
+    let c = header::exact_length(line.table_len(), log_len);
+    let d = header::exact_length(line.outcomes_len(), outcomes_len);
     a.or_else(b.or_else(c.or_else(d)))
 }
 
