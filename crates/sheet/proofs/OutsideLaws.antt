@@ -13,7 +13,7 @@ use Rattle.line.specs.declared.cause.Cause.the-variants.{Duplicate}
 use Rattle.line.proofs.CountLaws.{count-same}
 use Rattle.sheet.specs.Layout.{byte, two, four, header, spare, first, records, start, round, from, to, ballot, next, rest}
 use Rattle.sheet.specs.Chain.{Record, reached, after, Fate, leaves, again, ends}
-use Rattle.sheet.specs.Judgement.{ill-formed, sheet-form, line-and-length, opening-verdict, misplaced, record-form, unmarked-sender, same-place, taken-before, duplicate, record-verdict, records-verdict, chain-verdict, sheet-verdict}
+use Rattle.sheet.specs.Judgement.{ill-formed, sheet-form, line-and-length, verdict-to-8, misplaced, record-form, unmarked-sender, same-place, taken-before, duplicate, record-verdict, records-verdict, chain-verdict, sheet-verdict}
 use Rattle.sheet.specs.Reading.{place-of, filled, table-of}
 use Rattle.sheet.specs.Theorems.{SameChain}
 use Rattle.sheet.proofs.ChainLaws.{Over, Chained, kind, after-record, after-over, one-chain}
@@ -83,8 +83,8 @@ module _ (s s′ : List ℕ) (h : SameChain s s′) where
   first-alike = simp byte-alike
 
   -- causes 1 to 8
-  opening-alike : (l : ℕ) → opening-verdict s l ≡ opening-verdict s′ l
-  unfolding opening-verdict sheet-form ill-formed line-and-length spare
+  opening-alike : (l : ℕ) → verdict-to-8 s l ≡ verdict-to-8 s′ l
+  unfolding verdict-to-8 sheet-form ill-formed line-and-length spare
   opening-alike l = rw (h .length-same, records-alike, byte-alike 5 refl, header-alike)
 
   -- ---- the chain

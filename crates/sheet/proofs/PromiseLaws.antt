@@ -15,7 +15,7 @@ use Rattle.sheet.specs.declared.Reading.{Reading}
 use Rattle.sheet.specs.declared.Reading.the-variants as reading
 use Rattle.sheet.specs.Layout.{header}
 use Rattle.sheet.specs.Chain.{Fate}
-use Rattle.sheet.specs.Judgement.{sheet-form, line-and-length, opening-verdict, chain-verdict, sheet-verdict}
+use Rattle.sheet.specs.Judgement.{sheet-form, line-and-length, verdict-to-8, chain-verdict, sheet-verdict}
 use Rattle.sheet.specs.Reading.{table-of, numbers-of, reading-number, reading-values, reading-by, Reads}
 use Rattle.sheet.specs.Loops.{Whole, SoundHeader}
 use Rattle.sheet.proofs.FormLaws.{form-sound}
@@ -24,9 +24,9 @@ use Rattle.sheet.proofs.ChainLaws.{fate}
 module _ (s : List ℕ) where
   -- ---- what causes 1 to 8 let through
 
-  module _ (l : ℕ) (e : opening-verdict s l ≡ verdict.Accepted) where
+  module _ (l : ℕ) (e : verdict-to-8 s l ≡ verdict.Accepted) where
     pub opening-whole : Whole s
-    unfolding opening-verdict
+    unfolding verdict-to-8
     opening-whole =
         let w = form-sound s (both-accepted (sheet-form s) (line-and-length s l) e .0) in
         record { whole = w .length-is; most = w .most }
@@ -34,7 +34,7 @@ module _ (s : List ℕ) where
     opening-both : let h = header s in
         (header-verdict (h .n) (h .t) (h .upper) (h .sender) (h .value) (h .marks) ≡ verdict.Accepted)
         × (exact-length (table-length (h .n) (h .t)) l ≡ verdict.Accepted)
-    unfolding opening-verdict line-and-length
+    unfolding verdict-to-8 line-and-length
     opening-both = both-accepted _ _ (both-accepted (sheet-form s) (line-and-length s l) e .1)
 
     pub opening-sound : SoundHeader (header s)
@@ -67,11 +67,11 @@ module _ (s : List ℕ) where
   }
 
   -- refused by 1 to 8, whatever becomes of the chain
-  pub refused-opening : (table : List ℕ) (c : Cause) → opening-verdict s (length table) ≡ verdict.Refused c → Reads s table table (reading.Refused c)
+  pub refused-opening : (table : List ℕ) (c : Cause) → verdict-to-8 s (length table) ≡ verdict.Refused c → Reads s table table (reading.Refused c)
   unfolding sheet-verdict
   refused-opening table c e = promised table table (reading.Refused c) (fate s) (verdict.Refused c) (rw e) refl refl
 
-  module _ (table : List ℕ) (f : Fate s) (o : opening-verdict s (length table) ≡ verdict.Accepted) where
+  module _ (table : List ℕ) (f : Fate s) (o : verdict-to-8 s (length table) ≡ verdict.Accepted) where
     -- refused after that
     pub refused-later : (c : Cause) → chain-verdict s f ≡ verdict.Refused c → Reads s table table (reading.Refused c)
     unfolding sheet-verdict

@@ -20,7 +20,7 @@ use Rattle.line.proofs.LineLaws.{place-below, place-from}
 use Rattle.line.proofs.HeaderLaws.{never, accepted-false, both-accepted}
 use Rattle.sheet.specs.Layout.{header, from, ballot}
 use Rattle.sheet.specs.Chain.{Record, reached, Ends, Fate, leaves, again, ends}
-use Rattle.sheet.specs.Judgement.{misplaced, record-form, unmarked-sender, same-place, taken-before, duplicate, record-verdict, records-verdict, opening-verdict, chain-verdict, sheet-verdict}
+use Rattle.sheet.specs.Judgement.{misplaced, record-form, unmarked-sender, same-place, taken-before, duplicate, record-verdict, records-verdict, verdict-to-8, chain-verdict, sheet-verdict}
 use Rattle.sheet.specs.Reading.{place-of, filled, table-of}
 use Rattle.sheet.proofs.ChainLaws.{before-end}
 use Rattle.sheet.proofs.PlaceLaws.{InPlace, in-place, place-inside, from-told, place-tells}
@@ -126,7 +126,7 @@ module _ (s : List ℕ) where
   -- such is the chain of every accepted sheet
   pub accepted-ends : (l : ℕ) (f : Fate s) → sheet-verdict s l f ≡ Accepted → Read f
   unfolding sheet-verdict
-  accepted-ends l f v = go f (both-accepted (opening-verdict s l) (chain-verdict s f) v .1)
+  accepted-ends l f v = go f (both-accepted (verdict-to-8 s l) (chain-verdict s f) v .1)
     where
       go : (g : Fate s) → chain-verdict s g ≡ Accepted → Read g
       go (leaves x) w = never w

@@ -1,11 +1,11 @@
 -- Which cause a sheet is refused by (document 01, "Refused causes"): each cause a test of its own, in the order that the document gives.
-use Prim.Native.Nat.{ℕ, zero, suc, _+_, _-_, _*_}
+use Prim.Native.Nat.{ℕ, zero, suc, _+_, _*_}
 use mathlib.Core.Bool.{Bool, not, _&&_, _||_}
 use mathlib.Core.List.{List}
 use lib.Dec.{ltb, eqb}
 use lib.ListN.{length}
 use Rattle.line.specs.Count.{count}
-use Rattle.line.specs.Line.{rounds, table-length}
+use Rattle.line.specs.Line.{from-0, rounds, table-length}
 use Rattle.line.specs.Marks.{marked}
 use Rattle.line.specs.Cause.{refused-if, _or-else_}
 use Rattle.line.specs.Header.{outside, header-verdict, exact-length}
@@ -29,13 +29,13 @@ sheet-form s = refused-if (ill-formed s) SheetForm
 
 -- 2 to 6 of the header, and 8 of the lent table's length
 unfoldable pub line-and-length : List ℕ → ℕ → Verdict
-line-and-length s table =
+line-and-length s table-size =
     header-verdict (header s .n) (header s .t) (header s .upper) (header s .sender) (header s .value) (header s .marks)
-    or-else exact-length (table-length (header s .n) (header s .t)) table
+    or-else exact-length (table-length (header s .n) (header s .t)) table-size
 
 -- "The lowest number wins up to 8."
-unfoldable pub opening-verdict : List ℕ → ℕ → Verdict
-opening-verdict s table = sheet-form s or-else line-and-length s table
+unfoldable pub verdict-to-8 : List ℕ → ℕ → Verdict
+verdict-to-8 s table-size = sheet-form s or-else line-and-length s table-size
 
 -- ---- 11 to 13, of one record
 
@@ -52,7 +52,7 @@ record-form s i = refused-if (misplaced s i) RecordForm
 
 -- "a record's from is not marked"
 unfoldable pub unmarked-sender : List ℕ → ℕ → Verdict
-unmarked-sender s i = refused-if (not (marked (header s .marks) (from s i - 1))) UnmarkedSender
+unmarked-sender s i = refused-if (not (marked (header s .marks) (from-0 (from s i)))) UnmarkedSender
 
 -- "the same round, from and to": of two indices
 unfoldable pub same-place : List ℕ → ℕ → ℕ → Bool
@@ -87,4 +87,4 @@ chain-verdict s (ends m e) = records-verdict s m
 
 -- a sheet, with a lent table of this length
 unfoldable pub sheet-verdict : (s : List ℕ) → ℕ → Fate s → Verdict
-sheet-verdict s table fate = opening-verdict s table or-else chain-verdict s fate
+sheet-verdict s table-size fate = verdict-to-8 s table-size or-else chain-verdict s fate

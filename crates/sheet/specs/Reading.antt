@@ -1,9 +1,9 @@
 -- What the reader fills and answers, and what it promises.
-use Prim.Native.Nat.{ℕ, zero, suc, _-_}
+use Prim.Native.Nat.{ℕ, zero, suc}
 use mathlib.Core.Path.{_≡_}
 use mathlib.Core.List.{List, [], _∷_}
 use lib.ListN.{length, set, replicate}
-use Rattle.line.specs.Line.{table-length, place}
+use Rattle.line.specs.Line.{from-0, table-length, place}
 use Rattle.line.specs.Ballot.{silence}
 use Rattle.line.specs.Cause.{number, code, written, given}
 use Rattle.line.specs.declared.cause.Verdict.{Verdict}
@@ -19,7 +19,7 @@ use Rattle.sheet.specs.Judgement.{sheet-verdict}
 
 -- the place in the table of the record with index i
 unfoldable pub place-of : List ℕ → ℕ → ℕ
-place-of s i = place (header s .n) (round s i) (from s i - 1) (to s i - 1)
+place-of s i = place (header s .n) (round s i) (from-0 (from s i)) (from-0 (to s i))
 
 -- "The reader fills a run table: 255 everywhere, then each chained ballot in its place": after the first m records of the chain
 unfoldable pub filled : List ℕ → ℕ → List ℕ

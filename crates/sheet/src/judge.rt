@@ -3,10 +3,11 @@ ghost use mathlib.Core.Path.{_≡_};
 ghost use mathlib.Core.Bool.{not};
 ghost use Prim.Native.Nat.{_-_, _≤_, _<_};
 ghost use lib.ListN.{length};
+ghost use Rattle.line.specs.Line.{from-0};
 ghost use Rattle.line.specs.Marks.{marked};
 ghost use Rattle.sheet.specs.Layout.{from};
 ghost use Rattle.sheet.specs.Chain.{Record, Ends};
-ghost use Rattle.sheet.specs.Judgement.{ill-formed, line-and-length, opening-verdict, misplaced, records-verdict};
+ghost use Rattle.sheet.specs.Judgement.{ill-formed, line-and-length, verdict-to-8, misplaced, records-verdict};
 ghost use Rattle.sheet.specs.Reading.{place-of};
 ghost use Rattle.sheet.specs.Loops.{Lined, Placed, unseen, looked, marked-seen, record-by};
 use crate::layout;
@@ -31,9 +32,9 @@ fn ill_formed(sheet: &[u8]) -> bool
 }
 
 // Causes 2 to 8 of a sheet that has a header.
-fn line_and_length(sheet: &[u8], table: usize) -> Verdict
+fn line_and_length(sheet: &[u8], table_len: usize) -> Verdict
     requires { ⌜ 12 ≤ length (now sheet) ⌝ }
-    ensures { λ r. ⌜ r ≡ line-and-length (now (sheet .entry)) table ⌝ }
+    ensures { λ r. ⌜ r ≡ line-and-length (now (sheet .entry)) «table_len» ⌝ }
 {
     let h = layout::header(sheet);
     let line = Line {
@@ -42,18 +43,18 @@ fn line_and_length(sheet: &[u8], table: usize) -> Verdict
         upper: h.upper,
     };
     let a = header::header_verdict(line, h.sender, h.value, h.marks);
-    let b = header::exact_length(line.table_len(), table);
+    let b = header::exact_length(line.table_len(), table_len);
     a.or_else(b)
 }
 
 // Causes 1 to 8.
-pub(crate) fn opening(sheet: &[u8], table: usize) -> Verdict
-    ensures { λ r. ⌜ r ≡ opening-verdict (now (sheet .entry)) table ⌝ }
+pub(crate) fn to_8(sheet: &[u8], table_len: usize) -> Verdict
+    ensures { λ r. ⌜ r ≡ verdict-to-8 (now (sheet .entry)) «table_len» ⌝ }
 {
     if ill_formed(sheet) {
         return Verdict::Refused(Cause::SheetForm);
     }
-    line_and_length(sheet, table)
+    line_and_length(sheet, table_len)
 }
 
 // Cause 11, of the record with index i. `last` is R.
@@ -76,7 +77,7 @@ fn misplaced(sheet: &[u8], i: usize, n: u8, last: u8, marks: u32) -> bool
 // Cause 12, of a record that cause 11 lets through.
 fn unmarked(sheet: &[u8], i: usize, n: u8, marks: u32) -> bool
     requires { ⌜ Placed (now sheet) i n ⌝ }
-    ensures { λ r. ⌜ r ≡ not (marked marks (from (now (sheet .entry)) i - 1)) ⌝ }
+    ensures { λ r. ⌜ r ≡ not (marked marks (from-0 (from (now (sheet .entry)) i))) ⌝ }
 {
     let from = layout::field(sheet, i, 1);
     !marks::is_marked(marks, from - 1)

@@ -2,7 +2,7 @@
 ghost use mathlib.Core.Path.{_≡_};
 ghost use lib.ListN.{length};
 ghost use Rattle.line.specs.declared.cause.Verdict.the-variants.{Accepted};
-ghost use Rattle.sheet.specs.Judgement.{opening-verdict};
+ghost use Rattle.sheet.specs.Judgement.{verdict-to-8};
 ghost use Rattle.sheet.specs.Chain.{Ends};
 ghost use Rattle.sheet.specs.Reading.{Reads};
 use crate::chain::Walked;
@@ -33,7 +33,7 @@ pub enum Reading {
 
 // A sheet whose chain ends after m records: all are judged before the first byte is written.
 fn read_records(sheet: &[u8], m: usize, table: &mut [u8]) -> Reading
-    requires { ⌜ (opening-verdict (now sheet) (length (now table)) ≡ Accepted) × Ends (now sheet) m ⌝ }
+    requires { ⌜ (verdict-to-8 (now sheet) (length (now table)) ≡ Accepted) × Ends (now sheet) m ⌝ }
     ensures { λ r. ⌜ Reads (now (sheet .entry)) (now (table .entry)) (now (table .exit)) r ⌝ }
 {
     let header = layout::header(sheet);
@@ -55,7 +55,7 @@ fn read_records(sheet: &[u8], m: usize, table: &mut [u8]) -> Reading
 
 // A sheet that causes 1 to 8 let through: the whole chain is walked before any record is judged.
 fn read_chain(sheet: &[u8], table: &mut [u8]) -> Reading
-    requires { ⌜ opening-verdict (now sheet) (length (now table)) ≡ Accepted ⌝ }
+    requires { ⌜ verdict-to-8 (now sheet) (length (now table)) ≡ Accepted ⌝ }
     ensures { λ r. ⌜ Reads (now (sheet .entry)) (now (table .entry)) (now (table .exit)) r ⌝ }
 {
     let walked = chain::walk(sheet);
@@ -70,7 +70,7 @@ fn read_chain(sheet: &[u8], table: &mut [u8]) -> Reading
 pub fn read(sheet: &[u8], table: &mut [u8]) -> Reading
     ensures { λ r. ⌜ Reads (now (sheet .entry)) (now (table .entry)) (now (table .exit)) r ⌝ }
 {
-    let verdict = judge::opening(sheet, table.len());
+    let verdict = judge::to_8(sheet, table.len());
     match verdict {
         Verdict::Accepted => read_chain(sheet, table),
         Verdict::Refused(c) => Reading::Refused(c),

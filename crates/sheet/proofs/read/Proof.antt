@@ -5,14 +5,14 @@ use Rattle.sheet.proofs.PromiseLaws.{refused-opening}
 use Rattle.sheet.proofs.read.Statement.{statement}
 use Rattle.sheet.proofs.read.Tie as tie
 
-opening-requires : tie.Need-opening-requires
-opening-requires c κs = search needs
+to-8-requires : tie.Need-to-8-requires
+to-8-requires c κs = search needs
 
 enum-told : tie.Need-enum-told
 enum-told c = search needs
 
 read-chain-requires : tie.Need-read-chain-requires
-read-chain-requires c κs = sym (c .before .before .before .opening .ensures) ∙ c .before .enum-told .given .1
+read-chain-requires c κs = sym (c .before .before .before .to-8 .ensures) ∙ c .before .enum-told .given .1
 
 enum-known-verdict : tie.Need-enum-known-verdict
 enum-known-verdict c = search needs
@@ -24,13 +24,13 @@ returns : tie.Need-returns
 returns c = search needs
 
 returns-2 : tie.Need-returns-2
-returns-2 c = refused-opening _ _ _ (sym (c .before .before .before .opening .ensures) ∙ c .before .verdict .given .1)
+returns-2 c = refused-opening _ _ _ (sym (c .before .before .before .to-8 .ensures) ∙ c .before .verdict .given .1)
 
 pub read-spec : {M : Type 1} → statement M
 read-spec =
     tie.close
     (tie.spec
-    opening-requires
+    to-8-requires
     enum-told
     read-chain-requires
     enum-known-verdict

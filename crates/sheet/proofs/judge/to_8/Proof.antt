@@ -1,19 +1,19 @@
--- `judge::opening` meets its contract: cause 1 comes first.
+-- `judge::to_8` meets its contract: cause 1 comes first.
 use borrow.Author.Needs.{needs}
 use mathlib.Core.Path.{sym, _∙_}
 use native.Mathlib.Omega.{arith}
 use Rattle.line.proofs.HeaderLaws.{refused-true, refused-false}
 use Rattle.line.specs.declared.cause.Cause.the-variants.{SheetForm}
-use Rattle.sheet.specs.Judgement.{opening-verdict, sheet-form}
+use Rattle.sheet.specs.Judgement.{verdict-to-8, sheet-form}
 use Rattle.sheet.proofs.FormLaws.{form-sound}
-use Rattle.sheet.proofs.judge.opening.Statement.{statement}
-use Rattle.sheet.proofs.judge.opening.Tie as tie
+use Rattle.sheet.proofs.judge.to_8.Statement.{statement}
+use Rattle.sheet.proofs.judge.to_8.Tie as tie
 
 ill-formed-requires : tie.Need-ill-formed-requires
 ill-formed-requires c κs = search needs
 
 returns : tie.Need-returns
-unfolding opening-verdict sheet-form
+unfolding verdict-to-8 sheet-form
 returns c = rw (refused-true SheetForm (sym (c .before .ill-formed .ensures) ∙ c .if1 .taken))
 
 line-and-length-requires : tie.Need-line-and-length-requires
@@ -24,9 +24,9 @@ line-and-length-requires c κs =
     omega (arith, w .length-is)
 
 returns-2 : tie.Need-returns-2
-unfolding opening-verdict sheet-form
+unfolding verdict-to-8 sheet-form
 returns-2 c =
     rw (refused-false SheetForm (sym (c .before .before .ill-formed .ensures) ∙ c .before .if1 .left)) (c .line-and-length .ensures)
 
-pub opening-spec : {M : Type 1} → statement M
-opening-spec = tie.close (tie.spec ill-formed-requires returns line-and-length-requires returns-2)
+pub to-8-spec : {M : Type 1} → statement M
+to-8-spec = tie.close (tie.spec ill-formed-requires returns line-and-length-requires returns-2)
