@@ -11,17 +11,17 @@ use Rattle.station.specs.Answers.{opened-number, Opens, told-number, Tells, adv
 use Rattle.controller.specs.Words.{station-of, answer-word, opened-word, told-word, advanced-word, result-word, OpenAnswer, BallotAnswer, AdvanceAnswer, ResultAnswer}
 
 module _ (n t T sender own : ℕ) where
-  pub open-answer : (value r : ℕ) (o : Opened) → Opens n t T sender own value o
+  pub opened-as : (value r : ℕ) (o : Opened) → Opens n t T sender own value o
       → r ≡ answer-word (opened-number o) (opened-word o) → OpenAnswer n t T sender own value r
-  open-answer value r o p e = record { answer = rw (← p .answer) e }
+  opened-as value r o p e = record { answer = rw (← p .answer) e }
 
   module _ (state r : ℕ) (s : Station) (q : s ≡ station-of n t T sender own state) where
-    pub ballot-answer : (o : Told) → Tells s o → r ≡ answer-word (told-number o) (told-word o) → BallotAnswer n t T sender own state r
-    ballot-answer o p e = record { answer = rw (← q, ← p .answer) e }
+    pub told-as : (o : Told) → Tells s o → r ≡ answer-word (told-number o) (told-word o) → BallotAnswer n t T sender own state r
+    told-as o p e = record { answer = rw (← q, ← p .answer) e }
 
-    pub advance-answer : (row : List ℕ) (o : Advanced) → Advances s row o → r ≡ answer-word (advanced-number o) (advanced-word state o)
+    pub advanced-as : (row : List ℕ) (o : Advanced) → Advances s row o → r ≡ answer-word (advanced-number o) (advanced-word state o)
         → AdvanceAnswer n t T sender own state row r
-    advance-answer row o p e = record { answer = rw (← q, ← p .answer) e }
+    advanced-as row o p e = record { answer = rw (← q, ← p .answer) e }
 
-    pub result-answer : (o : StationResult) → Results s o → r ≡ answer-word (result-number o) (result-word o) → ResultAnswer n t T sender own state r
-    result-answer o p e = record { answer = rw (← q, ← p .answer) e }
+    pub result-as : (o : StationResult) → Results s o → r ≡ answer-word (result-number o) (result-word o) → ResultAnswer n t T sender own state r
+    result-as o p e = record { answer = rw (← q, ← p .answer) e }

@@ -3,8 +3,6 @@
 use Prim.Native.Nat.{ℕ, _+_, _*_, _/_, _%_}
 use mathlib.Core.Path.{_≡_}
 use mathlib.Core.List.{List}
-use lib.ListN.{length}
-use Rattle.broadcast.specs.Station.{ballot, advance, at}
 use Rattle.station.specs.declared.Station.{Station}
 use Rattle.station.specs.declared.Opened.{Opened}
 use Rattle.station.specs.declared.Opened.the-variants as opened
@@ -14,9 +12,7 @@ use Rattle.station.specs.declared.Advanced.{Advanced}
 use Rattle.station.specs.declared.Advanced.the-variants as advanced
 use Rattle.station.specs.declared.StationResult.{StationResult}
 use Rattle.station.specs.declared.StationResult.the-variants as station-result
-use Rattle.station.specs.Judgement.{station-verdict, telling-verdict, taking-verdict, opening-verdict}
-use Rattle.station.specs.Automaton.{setup-of, state-of, in-state, opened-station, result-of}
-use Rattle.station.specs.Answers.{opened-by, opened-number, told-by, told-number, advanced-by, advanced-number, result-by, result-number}
+use Rattle.station.specs.Answers.{opened-number, open-answer, told-number, ballot-answer, advanced-number, advance-answer, result-number, result-answer}
 
 -- four bytes as one number, the lowest first
 abbrev pub word : ℕ → ℕ → ℕ → ℕ → ℕ
@@ -71,23 +67,17 @@ result-word (station-result.Refused c) = 0
 
 -- `vembopu_open`: what `station::open` answers
 pub record OpenAnswer (n t T sender own value r : ℕ) : Type 0 where
-  pub answer : let o = opened-by (opening-verdict n t T sender own value) (opened-station n t T sender own value) in
-      r ≡ answer-word (opened-number o) (opened-word o)
+  pub answer : let o = open-answer n t T sender own value in r ≡ answer-word (opened-number o) (opened-word o)
 
 -- `vembopu_ballot`: what `station::ballot` answers
 pub record BallotAnswer (n t T sender own state r : ℕ) : Type 0 where
-  pub answer : let s = station-of n t T sender own state in
-      let o = told-by (telling-verdict s) (ballot (setup-of s) (state-of s)) in
-      r ≡ answer-word (told-number o) (told-word o)
+  pub answer : let o = ballot-answer (station-of n t T sender own state) in r ≡ answer-word (told-number o) (told-word o)
 
 -- `vembopu_advance`: what `station::advance` answers
 pub record AdvanceAnswer (n t T sender own state : ℕ) (row : List ℕ) (r : ℕ) : Type 0 where
-  pub answer : let s = station-of n t T sender own state in
-      let o = advanced-by (taking-verdict s (length row)) (in-state s (advance (setup-of s) (state-of s) (at row))) in
+  pub answer : let o = advance-answer (station-of n t T sender own state) row in
       r ≡ answer-word (advanced-number o) (advanced-word state o)
 
 -- `vembopu_result`: what `station::result` answers
 pub record ResultAnswer (n t T sender own state r : ℕ) : Type 0 where
-  pub answer : let s = station-of n t T sender own state in
-      let o = result-by (station-verdict s) (result-of s) in
-      r ≡ answer-word (result-number o) (result-word o)
+  pub answer : let o = result-answer (station-of n t T sender own state) in r ≡ answer-word (result-number o) (result-word o)

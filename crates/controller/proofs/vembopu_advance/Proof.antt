@@ -1,6 +1,6 @@
 -- `vembopu_advance` meets its contract, by what `station::advance` promises.
 use borrow.Author.Needs.{needs}
-use Rattle.controller.proofs.WordLaws.{advance-answer}
+use Rattle.controller.proofs.WordLaws.{advanced-as}
 use Rattle.controller.proofs.vembopu_advance.Statement.{statement}
 use Rattle.controller.proofs.vembopu_advance.Tie as tie
 
@@ -30,12 +30,12 @@ answer-requires-2 c κs = search needs
 
 returns : tie.Need-returns
 returns c =
-    advance-answer _ _ _ _ _ _ _ _ (c .before .before .before .before .before .before .station .ensures) _ _ (c .before .before .before .before .before .advance .ensures)
+    advanced-as _ _ _ _ _ _ _ _ (c .before .before .before .before .before .before .station .ensures) _ _ (c .before .before .before .before .before .advance .ensures)
     (rw (c .before .before .before .advanced .given .1, ← c .before .state .ensures) (c .answer .ensures))
 
 returns-2 : tie.Need-returns-2
 returns-2 c =
-    advance-answer _ _ _ _ _ _ _ _ (c .before .before .before .before .before .before .station .ensures) _ _ (c .before .before .before .before .before .advance .ensures)
+    advanced-as _ _ _ _ _ _ _ _ (c .before .before .before .before .before .before .station .ensures) _ _ (c .before .before .before .before .before .advance .ensures)
     (rw (c .before .before .before .advanced2 .given .1, ← c .before .number .ensures) (c .answer2 .ensures))
 
 pub vembopu-advance-spec : {M : Type 1} → statement M

@@ -1,6 +1,6 @@
 -- `vembopu_ballot` meets its contract, by what `station::ballot` promises.
 use borrow.Author.Needs.{needs}
-use Rattle.controller.proofs.WordLaws.{ballot-answer}
+use Rattle.controller.proofs.WordLaws.{told-as}
 use Rattle.controller.proofs.vembopu_ballot.Statement.{statement}
 use Rattle.controller.proofs.vembopu_ballot.Tie as tie
 
@@ -30,12 +30,12 @@ answer-requires-2 c κs = search needs
 
 returns : tie.Need-returns
 returns c =
-    ballot-answer _ _ _ _ _ _ _ _ (c .before .before .before .before .before .station .ensures) _ (c .before .before .before .before .ballot .ensures)
+    told-as _ _ _ _ _ _ _ _ (c .before .before .before .before .before .station .ensures) _ (c .before .before .before .before .ballot .ensures)
     (rw (c .before .before .told .given .1) (c .answer .ensures))
 
 returns-2 : tie.Need-returns-2
 returns-2 c =
-    ballot-answer _ _ _ _ _ _ _ _ (c .before .before .before .before .before .before .station .ensures) _ (c .before .before .before .before .before .ballot .ensures)
+    told-as _ _ _ _ _ _ _ _ (c .before .before .before .before .before .before .station .ensures) _ (c .before .before .before .before .before .ballot .ensures)
     (rw (c .before .before .before .told2 .given .1, ← c .before .number .ensures) (c .answer2 .ensures))
 
 pub vembopu-ballot-spec : {M : Type 1} → statement M

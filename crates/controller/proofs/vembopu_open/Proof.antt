@@ -1,6 +1,6 @@
 -- `vembopu_open` meets its contract, by what `station::open` promises.
 use borrow.Author.Needs.{needs}
-use Rattle.controller.proofs.WordLaws.{open-answer}
+use Rattle.controller.proofs.WordLaws.{opened-as}
 use Rattle.controller.proofs.vembopu_open.Statement.{statement}
 use Rattle.controller.proofs.vembopu_open.Tie as tie
 
@@ -27,12 +27,12 @@ answer-requires-2 c κs = search needs
 
 returns : tie.Need-returns
 returns c =
-    open-answer _ _ _ _ _ _ _ _ (c .before .before .before .before .before .«open» .ensures)
+    opened-as _ _ _ _ _ _ _ _ (c .before .before .before .before .before .«open» .ensures)
     (rw (c .before .before .before .opened .given .1, ← c .before .state .ensures) (c .answer .ensures))
 
 returns-2 : tie.Need-returns-2
 returns-2 c =
-    open-answer _ _ _ _ _ _ _ _ (c .before .before .before .before .before .«open» .ensures)
+    opened-as _ _ _ _ _ _ _ _ (c .before .before .before .before .before .«open» .ensures)
     (rw (c .before .before .before .opened2 .given .1, ← c .before .number .ensures) (c .answer2 .ensures))
 
 pub vembopu-open-spec : {M : Type 1} → statement M

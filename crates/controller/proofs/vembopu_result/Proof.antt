@@ -1,6 +1,6 @@
 -- `vembopu_result` meets its contract, by what `station::result` promises.
 use borrow.Author.Needs.{needs}
-use Rattle.controller.proofs.WordLaws.{result-answer}
+use Rattle.controller.proofs.WordLaws.{result-as}
 use Rattle.controller.proofs.vembopu_result.Statement.{statement}
 use Rattle.controller.proofs.vembopu_result.Tie as tie
 
@@ -39,17 +39,17 @@ answer-requires-3 c κs = search needs
 
 returns : tie.Need-returns
 returns c =
-    result-answer _ _ _ _ _ _ _ _ (c .before .before .before .before .before .before .station .ensures) _ (c .before .before .before .before .before .result .ensures)
+    result-as _ _ _ _ _ _ _ _ (c .before .before .before .before .before .before .station .ensures) _ (c .before .before .before .before .before .result .ensures)
     (rw (c .before .before .before .found .given .1, ← c .before .four .ensures) (c .answer .ensures))
 
 returns-2 : tie.Need-returns-2
 returns-2 c =
-    result-answer _ _ _ _ _ _ _ _ (c .before .before .before .before .before .before .station .ensures) _ (c .before .before .before .before .before .result .ensures)
+    result-as _ _ _ _ _ _ _ _ (c .before .before .before .before .before .before .station .ensures) _ (c .before .before .before .before .before .result .ensures)
     (rw (c .before .before .before .found2 .given .1, ← c .before .four2 .ensures) (c .answer2 .ensures))
 
 returns-3 : tie.Need-returns-3
 returns-3 c =
-    result-answer _ _ _ _ _ _ _ _ (c .before .before .before .before .before .before .station .ensures) _ (c .before .before .before .before .before .result .ensures)
+    result-as _ _ _ _ _ _ _ _ (c .before .before .before .before .before .before .station .ensures) _ (c .before .before .before .before .before .result .ensures)
     (rw (c .before .before .before .found3 .given .1, ← c .before .number .ensures) (c .answer3 .ensures))
 
 pub vembopu-result-spec : {M : Type 1} → statement M
