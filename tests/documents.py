@@ -1,0 +1,75 @@
+#!/usr/bin/env python3
+"""Names in the documents are names of the repository.
+
+Every path and every definition, statement, function or file that README.md and docs/ set in backticks is there; every
+wrong program that docs/PROMISES.md names is there, and every one that is there is named. Prints what fails, then
+'N passed, M failed'.
+"""
+import pathlib
+import re
+import subprocess
+import sys
+
+TOP = pathlib.Path(__file__).resolve().parent.parent
+DOCUMENTS = ["README.md", "docs/PROMISES.md", "docs/DECISIONS.md", "controller/README.md", "peer/README.md", "vectors/README.md"]
+WORD = re.compile(r"[\w\-′]+")
+NAME = re.compile(r"[A-Za-z_][\w\-′]*(::[A-Za-z_]\w*)*\Z")
+PATH = re.compile(r"[\w.*\-]*/[\w./*\-]+\Z")
+EDIT = re.compile(r"`(\w+)`(\*?)")
+
+
+def tracked():
+    listed = subprocess.run(["git", "ls-files", "-co", "--exclude-standard"], cwd=TOP, capture_output=True, text=True, check=True)
+    return [path for path in listed.stdout.splitlines() if (TOP / path).is_file()]
+
+
+def words():
+    """Every word of the repository that isn't a document's."""
+    found = set()
+    for path in tracked():
+        if not path.endswith(".md"):
+            found.update(WORD.findall(path), WORD.findall((TOP / path).read_text(encoding="utf-8", errors="replace")))
+    return found
+
+
+def is_there(name, folder, known):
+    if PATH.match(name):
+        places = [folder, TOP, *TOP.glob("crates/*")]
+        return "target/" in name or any(any(place.glob(name.removeprefix("./").rstrip("/"))) for place in places)
+    return all(part in known for part in name.split("::"))
+
+
+def names(known):
+    """A name and whether it is there, for each in backticks."""
+    for document in DOCUMENTS:
+        path = TOP / document
+        for name in sorted(set(re.findall(r"`([^`\n]+)`", path.read_text(encoding="utf-8")))):
+            if NAME.match(name) or PATH.match(name):
+                yield f"{document}: `{name}`", is_there(name, path.parent, known)
+
+
+def edits():
+    """The wrong programs of the tables of docs/PROMISES.md beside the files."""
+    text = (TOP / "docs/PROMISES.md").read_text(encoding="utf-8")
+    tables = text.split("All of them, by the call", 1)[1].split("\n## ", 1)[0]
+    cells = [row.split("|", 2)[2] for row in tables.splitlines() if row.startswith("| ")]
+    told = {(name, star == "*") for cell in cells for name, star in EDIT.findall(cell)}
+    there = {(path.stem, False) for path in TOP.glob("crates/*/must-fail/*.edit")}
+    there |= {(path.stem, True) for path in TOP.glob("tests/wrong/*/*.edit")}
+    for name, star in sorted(told | there):
+        where = "tests/wrong" if star else "crates/*/must-fail"
+        yield f"wrong program {name}: in docs/PROMISES.md and in {where}", (name, star) in told and (name, star) in there
+
+
+def main():
+    passed = failed = 0
+    for what, holds in [*names(words()), *edits()]:
+        passed, failed = passed + holds, failed + (not holds)
+        if not holds:
+            print(f"failed: {what}")
+    print(f"{passed} passed, {failed} failed")
+    return failed != 0
+
+
+if __name__ == "__main__":
+    sys.exit(main())
