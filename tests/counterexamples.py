@@ -32,6 +32,7 @@ EDITED = {
     "station_king_tells_z": edited(station_kings_ballot=lambda y, z: z),
     "log_from_and_to_exchanged": edited(offset=lambda n, r, i, j: ((r - 1) * n + j) * n + i),
     "all_speak_in_round_1": edited(speaks_first=lambda i, sender: True),
+    "alone_flag_from_y": edited(flag_alone=lambda y, g: 1 if y < 2 else 0),
     "bad_outcome_shown": edited(bad_outcome=(0, 0, 0)),
 }
 
@@ -51,6 +52,8 @@ def broken_guarantee(run, outcomes):
     """Demand 3 of the outcome bytes."""
     decided = {outcomes[i][0] for i in run.good}
     flags = [outcomes[i][2] for i in run.good]
+    if not decided <= {0, 1} or not set(flags) <= {0, 1}:
+        return "Demand-3, range"
     if run.f <= run.t and len(decided) > 1:
         return "Demand-3, agreement"
     if run.f <= run.t and any(flags):
@@ -63,13 +66,15 @@ def broken_guarantee(run, outcomes):
 
 
 def broken_exchange(rules, run, rng):
-    """Definition 6 of an exchange with any inputs, and step 4's count."""
+    """Definition 6 of an exchange with any inputs, step 4's count, and the flags of the exchange had alone."""
     x = [rng.randrange(2) for _ in range(run.n)] if rng.random() < 0.5 else [rng.randrange(2)] * run.n
     _, y, grade, counts = exchange(rules, run, 1, x)
     entered = {x[i] for i in run.good}
     left = {y[i] for i in run.good}
     if any(sum(c) != run.n for c in counts):
         return "Ballots-make-n"
+    if any(rules.flag_alone(y[i], grade[i]) != (grade[i] < 2) for i in run.good):
+        return "Exchange-bytes"
     if run.f <= run.T and len(entered) == 1 and (left != entered or any(grade[i] < (2 if run.f <= run.t else 1) for i in run.good)):
         return "Definition-6, validity"
     sure = [i for i in run.good if grade[i] == 2 or (run.f <= run.t and grade[i] >= 1)]

@@ -12,6 +12,7 @@ class Rules:
     read_second = staticmethod(lambda b: b if b <= 1 else BLANK)
     grade = staticmethod(lambda n, t, T, c: 2 if c >= n - t else 1 if c >= n - T else 0)
     flag = staticmethod(lambda g: 1 if g < 2 else 0)
+    flag_alone = staticmethod(lambda y, g: 1 if g < 2 else 0)
     obeys = staticmethod(lambda g: g == 0)
     kings_ballot = staticmethod(lambda x, y: y)
     phases = staticmethod(lambda t: t + 1)
