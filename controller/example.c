@@ -2,7 +2,7 @@
 #include <stdio.h>
 #include <stdlib.h>
 
-/* The answer, if it is none of a refusal; a refusal ends the program. */
+/* Gives the answer back if it is accepted; a refusal ends the program. */
 static uint64_t accepted(const char *call, int station, uint64_t answer)
 {
     if (vembopu_refusal(answer) != VEMBOPU_ACCEPTED) {

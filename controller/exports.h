@@ -75,8 +75,9 @@ uint8_t vembopu_read(const uint8_t *sheet, size_t sheet_len,
  * log           written, laid out like the table: what each good station sends,
  *               255 where it doesn't speak; a bad one's bytes as in the table
  * outcomes      written
- * table_len, log_len    R*n*n
- * outcomes_len          3*n
+ * table_len     R*n*n
+ * log_len       R*n*n
+ * outcomes_len  3*n
  *
  * Refused: the lowest of 2, 3, 4, 5, 6, 8.
  */

@@ -13,8 +13,9 @@
 
 enum { BYTES = 9, BUFFERS = 3, SPACE = 128, UNWRITTEN = 170 };
 
-/* A call's arguments of one byte, a state's and a lent station's bytes among
-   them, in the order of the headers; marks; buffers. */
+/* A call's arguments of one byte in the order of its header; after these the
+   state's round, value, z and grade, or the whole lent station alone; marks;
+   buffers. */
 struct arguments {
     uint8_t byte[BYTES];
     uint32_t marks;
@@ -110,7 +111,7 @@ enum { OPEN, BALLOT, ADVANCE, RESULT, ADVANCE_LENT, READ, REHEARSE, EXCHANGE, CA
 
 struct example {
     int call;
-    uint8_t byte[BYTES]; /* n, t, T, sender, own, round, value, z, grade */
+    uint8_t byte[BYTES];
     uint32_t marks;
     const uint8_t *before[BUFFERS];
     size_t len[BUFFERS];

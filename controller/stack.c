@@ -49,7 +49,7 @@ static size_t depth(void (*run)(void), uint8_t paint)
     return STACK - left;
 }
 
-/* A byte that is stored is no paint in one of the two. */
+/* A stored byte differs from one of the two paints. */
 static size_t deepest(void (*run)(void))
 {
     size_t one = depth(run, 0xa5), other = depth(run, 0x5a);
