@@ -1,4 +1,4 @@
-/* Counting, drawing and guarded rows, shared by the test programs. */
+/* Counting, drawing and guarded buffers, shared by the test programs. */
 #ifndef CHECK_H
 #define CHECK_H
 
@@ -55,24 +55,30 @@ static inline uint32_t draw(uint32_t below)
     return draw_word() % below;
 }
 
-/* A page between two that can't be touched. A row is laid at its very start or
-   very end, so that a byte read beside it ends the process. */
+/* Whole pages between two that can't be touched. A buffer is laid at their very
+   start or very end, so that a byte read beside it ends the process. */
 struct guarded {
     uint8_t *page;
     size_t size;
 };
 
-static inline struct guarded guarded_page(void)
+static inline struct guarded guarded_pages(size_t bytes)
 {
     struct guarded g;
-    g.size = (size_t)sysconf(_SC_PAGESIZE);
-    g.page = mmap(NULL, 3 * g.size, PROT_NONE, MAP_PRIVATE | MAP_ANONYMOUS, -1, 0);
-    if (g.page == MAP_FAILED || mprotect(g.page + g.size, g.size, PROT_READ | PROT_WRITE) != 0) {
-        perror("guarded page");
+    size_t one = (size_t)sysconf(_SC_PAGESIZE);
+    g.size = (bytes + one - 1) / one * one;
+    g.page = mmap(NULL, g.size + 2 * one, PROT_NONE, MAP_PRIVATE | MAP_ANONYMOUS, -1, 0);
+    if (g.page == MAP_FAILED || mprotect(g.page + one, g.size, PROT_READ | PROT_WRITE) != 0) {
+        perror("guarded pages");
         exit(2);
     }
-    g.page += g.size;
+    g.page += one;
     return g;
+}
+
+static inline struct guarded guarded_page(void)
+{
+    return guarded_pages(1);
 }
 
 #endif

@@ -7,7 +7,7 @@
  */
 #define _DEFAULT_SOURCE
 #include "check.h"
-#include "rehearse.h"
+#include "exports.h"
 #include "vembopu.h"
 
 #include <signal.h>

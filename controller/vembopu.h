@@ -42,17 +42,46 @@ enum {
     VEMBOPU_SILENCE = 255
 };
 
-/* Why a call is refused. Where several causes hold, the lowest is given. */
+/*
+ * Why a call is refused, by document 01's numbers. A station's calls give 2, 3,
+ * 4, 5, 7 and 8; the others are given by the calls of exports.h.
+ */
 enum {
     VEMBOPU_ACCEPTED = 0,
-    VEMBOPU_BAD_N = 2,          /* n outside 1 to 32 */
-    VEMBOPU_BAD_THRESHOLDS = 3, /* t above T, or t + 2T not below n */
-    VEMBOPU_BAD_NUMBER = 4,     /* sender or own outside 1 to n */
-    VEMBOPU_BAD_VALUE = 5,      /* value not 0 or 1 */
-    VEMBOPU_BAD_STATE = 7,      /* round outside 1 to R + 1, value above 1, z or
-                                   grade above 2; or a ballot or row wanted of
-                                   a done station */
-    VEMBOPU_BAD_ROW = 8         /* row_len is not n */
+    VEMBOPU_BAD_SHEET = 1,        /* sheet_len not 12 + 8k with k from 0 to
+                                     4,096, or byte 5 not zero */
+    VEMBOPU_BAD_N = 2,            /* n outside 1 to 32 */
+    VEMBOPU_BAD_THRESHOLDS = 3,   /* t above T, or t + 2T not below n */
+    VEMBOPU_BAD_NUMBER = 4,       /* sender or own outside 1 to n */
+    VEMBOPU_BAD_VALUE = 5,        /* value, or an unmarked station's input, not
+                                     0 or 1 */
+    VEMBOPU_BAD_MARKS = 6,        /* a mark beyond station n */
+    VEMBOPU_BAD_STATE = 7,        /* round outside 1 to R + 1, value above 1, z
+                                     or grade above 2; or a ballot or row wanted
+                                     of a done station */
+    VEMBOPU_BAD_LENGTH = 8,       /* a row, table, log, outcomes or inputs not
+                                     of its exact length */
+    VEMBOPU_CHAIN_LEAVES = 9,     /* the chain reaches an index above k */
+    VEMBOPU_CHAIN_REPEATS = 10,   /* the chain reaches a record again */
+    VEMBOPU_BAD_RECORD = 11,      /* round outside 1 to R, a station outside 1
+                                     to n, or its last two bytes not zero */
+    VEMBOPU_UNMARKED_SENDER = 12, /* a record's from is not marked */
+    VEMBOPU_DUPLICATE = 13        /* an earlier chained record has the same
+                                     round, from and to */
+};
+
+/*
+ * Bytes of stack that a call needs at most, its arguments, its return address
+ * and its red zone included: measured on the libraries for x86-64 (stack.c),
+ * not proved, and rounded up. What an interrupt lays on the same stack comes on
+ * top.
+ */
+enum {
+    VEMBOPU_STACK_OPEN = 32,
+    VEMBOPU_STACK_BALLOT = 96,
+    VEMBOPU_STACK_ADVANCE = 128,
+    VEMBOPU_STACK_RESULT = 64,
+    VEMBOPU_STACK_ADVANCE_LENT = 128
 };
 
 /*
@@ -67,7 +96,8 @@ enum {
  * value    the bit to broadcast, 0 keeps the old recipe, 1 changes over. It
  *          matters only at the sender, and has to be 0 or 1 at every station.
  *
- * Gives the state. Refused: 2, 3, 4, 5; the lower 32 bits are then 0.
+ * Gives the state.
+ * Refused: the lowest of 2, 3, 4, 5; the lower 32 bits are then 0.
  */
 uint64_t vembopu_open(uint8_t n, uint8_t t, uint8_t T, uint8_t sender,
                       uint8_t own, uint8_t value);
@@ -82,7 +112,8 @@ uint64_t vembopu_open(uint8_t n, uint8_t t, uint8_t T, uint8_t sender,
  *          1, a z or a grade above 2 is refused by 7. The round of a done
  *          station is R + 1, and this call refuses that by 7 as well.
  *
- * Gives the ballot. Refused: 2, 3, 4, 7; the lower 32 bits are then 0.
+ * Gives the ballot.
+ * Refused: the lowest of 2, 3, 4, 7; the lower 32 bits are then 0.
  */
 uint64_t vembopu_ballot(uint8_t n, uint8_t t, uint8_t T, uint8_t sender,
                         uint8_t own, uint32_t state);
@@ -96,13 +127,14 @@ uint64_t vembopu_ballot(uint8_t n, uint8_t t, uint8_t T, uint8_t sender,
  *          the second round of an exchange one other than 0 or 1 is read as
  *          blank, in every other round as 0. Only read, and only during the
  *          call.
- * row_len  the number of bytes at row. Any other number than n is refused by
- *          8. row has to point to row_len bytes; it may be NULL only if
- *          row_len is 0.
+ * row_len  the number of bytes at row, which nobody writes during the call. Any
+ *          other number than n is refused by 8. row may be NULL only if row_len
+ *          is 0.
  *
  * Gives the new state, to be kept in place of the old one.
- * Refused: 2, 3, 4, 7, 8; the lower 32 bits are then the state handed in, so
- * that the station stays where it was and another row may be tried.
+ * Refused: the lowest of 2, 3, 4, 7, 8; the lower 32 bits are then the state
+ * handed in, so that the station stays where it was and another row may be
+ * tried.
  */
 uint64_t vembopu_advance(uint8_t n, uint8_t t, uint8_t T, uint8_t sender,
                          uint8_t own, uint32_t state, const uint8_t *row,
@@ -115,7 +147,7 @@ uint64_t vembopu_advance(uint8_t n, uint8_t t, uint8_t T, uint8_t sender,
  * state    as for vembopu_ballot, but that a done station is accepted.
  *
  * Gives, lowest byte first: 0, round, 0, 0; or 1, value, grade, flag.
- * Refused: 2, 3, 4, 7; the lower 32 bits are then 0.
+ * Refused: the lowest of 2, 3, 4, 7; the lower 32 bits are then 0.
  */
 uint64_t vembopu_result(uint8_t n, uint8_t t, uint8_t T, uint8_t sender,
                         uint8_t own, uint32_t state);
@@ -137,13 +169,14 @@ struct vembopu_station {
  * row that it received in the current round, where it stands.
  *
  * s        points to nine bytes, which the row doesn't overlap and nobody else
- *          reads or writes during the call. Any bytes may stand there.
+ *          reads or writes during the call; never NULL. Any bytes may stand
+ *          there.
  * row      and row_len as for vembopu_advance.
  *
  * Answers 0 if the row is taken: round, value, z and grade at s are then those
  * after the row, the five numbers as they were.
- * Refused: 2, 3, 4, 7, 8; nothing is written then, so that another row may be
- * tried.
+ * Refused: the lowest of 2, 3, 4, 7, 8; nothing is written then, so that
+ * another row may be tried.
  */
 uint8_t vembopu_advance_lent(struct vembopu_station *s, const uint8_t *row,
                              size_t row_len);

@@ -1,0 +1,177 @@
+/*
+ * The buffers of the calls on a whole line. Each is laid at the start and at
+ * the end of pages between others that can't be touched. What is only read
+ * stands on pages that can only be read, and in a refused call all that is
+ * lent. Then NULL with length 0, for each buffer.
+ */
+#define _DEFAULT_SOURCE
+#include "check.h"
+#include "exports.h"
+#include "inputs.h"
+
+enum { READ, REHEARSE, EXCHANGE };
+enum { BUFFERS = 3, UNWRITTEN = 170 };
+
+static const char *const call_name[] = {"vembopu_read", "vembopu_rehearse", "vembopu_exchange"};
+
+/* One call. The content of a buffer that the call writes is NULL. */
+struct trial {
+    int call;
+    uint8_t n, t, T, sender, value;
+    uint32_t marks;
+    const uint8_t *content[BUFFERS];
+    size_t len[BUFFERS];
+    int number;
+};
+
+static struct guarded area[BUFFERS];
+static uint8_t sheet[SHEET + RECORD], ballots[TABLE], inputs[INPUTS], written[BUFFERS][TABLE];
+
+static int run(const struct trial *x, uint8_t *const at[])
+{
+    switch (x->call) {
+    case READ:
+        return vembopu_read(at[0], x->len[0], at[1], x->len[1]);
+    case REHEARSE:
+        return vembopu_rehearse(x->n, x->t, x->T, x->sender, x->value, x->marks, at[0], x->len[0], at[1], x->len[1],
+                                at[2], x->len[2]);
+    default:
+        return vembopu_exchange(x->n, x->t, x->T, x->marks, at[0], x->len[0], at[1], x->len[1], at[2], x->len[2]);
+    }
+}
+
+/* ---- At the edges of pages ---- */
+
+/* The buffer's bytes, on pages that can be written only if the call should. */
+static uint8_t *lay(const struct trial *x, int k, int at_end)
+{
+    struct guarded g = area[k];
+    uint8_t *at = g.page + (at_end ? g.size - x->len[k] : 0);
+    mprotect(g.page, g.size, PROT_READ | PROT_WRITE);
+    memset(g.page, UNWRITTEN, g.size);
+    if (x->content[k] != NULL)
+        memcpy(at, x->content[k], x->len[k]);
+    if (x->content[k] != NULL || x->number != 0)
+        mprotect(g.page, g.size, PROT_READ);
+    return at;
+}
+
+/* 1 if nothing but the buffer is written on its pages. */
+static int only_within(const struct trial *x, int k, const uint8_t *at)
+{
+    const uint8_t *end = area[k].page + area[k].size;
+    int same = 1;
+    for (const uint8_t *p = area[k].page; p < end; p++)
+        same = same && (*p == UNWRITTEN || (p >= at && p < at + x->len[k]));
+    return same;
+}
+
+/* A buffer that was written at the start, then at the end, has the same bytes. */
+static void hold(const struct trial *x, int k, const uint8_t *at, int at_end)
+{
+    check(only_within(x, k, at), "%s writes beside buffer %d", call_name[x->call], k + 1);
+    if (at_end)
+        check(memcmp(written[k], at, x->len[k]) == 0, "%s: other bytes at the end", call_name[x->call]);
+    memcpy(written[k], at, x->len[k]);
+}
+
+static void at_edge(const struct trial *x, int at_end)
+{
+    uint8_t *at[BUFFERS];
+    for (int k = 0; k < BUFFERS; k++)
+        at[k] = lay(x, k, at_end);
+    int number = run(x, at);
+    check(number == x->number, "%s is answered by %d, not %d", call_name[x->call], number, x->number);
+    for (int k = 0; k < BUFFERS; k++)
+        if (number == 0 && x->content[k] == NULL)
+            hold(x, k, at[k], at_end);
+}
+
+/* ---- NULL ---- */
+
+/* The accepted trial with some buffers NULL, of length 0. */
+static void with_null(const struct trial *accepted, int which, int number)
+{
+    struct trial x = *accepted;
+    uint8_t *at[BUFFERS];
+    x.number = number;
+    for (int k = 0; k < BUFFERS; k++) {
+        if (which >> k & 1)
+            x.len[k] = 0;
+        at[k] = lay(&x, k, 1);
+        if (which >> k & 1)
+            at[k] = NULL;
+    }
+    int got = run(&x, at);
+    check(got == number, "%s, buffers %d NULL: %d, not %d", call_name[x.call], which, got, number);
+}
+
+/* Each buffer, and all: 1 for a sheet, otherwise 8; a lower number comes first. */
+static void nulls(const struct trial *accepted)
+{
+    struct trial low = *accepted;
+    int buffers = accepted->call == READ ? 2 : 3;
+    for (int which = 1; which < 1 << buffers; which++)
+        with_null(accepted, which, accepted->call == READ && which & 1 ? 1 : 8);
+    low.n = 0;
+    if (accepted->call != READ)
+        with_null(&low, 7, 2);
+}
+
+/* ---- The trials ---- */
+
+static void try_one(const struct trial *x)
+{
+    at_edge(x, 0);
+    at_edge(x, 1);
+    if (x->number == 0)
+        nulls(x);
+}
+
+static void sheets(void)
+{
+    for (size_t i = 0; i < COUNT(read_inputs); i++) {
+        const struct read_input *in = &read_inputs[i];
+        size_t len = make_sheet(sheet, in->k) + in->more;
+        sheet[in->at] = in->byte;
+        struct trial x = {.call = READ, .content = {sheet}, .len = {len, in->table_len}, .number = in->number};
+        try_one(&x);
+    }
+}
+
+static void rehearsals(void)
+{
+    for (size_t i = 0; i < COUNT(rehearse_inputs); i++) {
+        const struct rehearse_input *in = &rehearse_inputs[i];
+        struct trial x = {.call = REHEARSE, .n = in->n, .t = in->t, .T = in->T, .sender = in->sender,
+                          .value = in->value, .marks = in->marks, .content = {ballots},
+                          .len = {in->table_len, in->log_len, in->outcomes_len}, .number = in->number};
+        try_one(&x);
+    }
+}
+
+static void exchanges(void)
+{
+    for (size_t i = 0; i < COUNT(exchange_inputs); i++) {
+        const struct exchange_input *in = &exchange_inputs[i];
+        struct trial x = {.call = EXCHANGE, .n = in->n, .t = in->t, .T = in->T, .marks = in->marks,
+                          .content = {inputs, ballots}, .len = {in->inputs_len, in->table_len, in->outcomes_len},
+                          .number = in->number};
+        inputs[0] = in->input;
+        try_one(&x);
+    }
+}
+
+int main(void)
+{
+    for (int k = 0; k < BUFFERS; k++)
+        area[k] = guarded_pages(TABLE);
+    for (size_t i = 0; i < TABLE; i++)
+        ballots[i] = (uint8_t)draw(4);
+    for (size_t i = 0; i < INPUTS; i++)
+        inputs[i] = (uint8_t)draw(2);
+    sheets();
+    rehearsals();
+    exchanges();
+    return closing_count();
+}

@@ -1,0 +1,115 @@
+/*
+ * The calls on a whole line, in libexports.a: the reader of run sheets, the
+ * rehearsal of a broadcast, the graded exchange had alone. A controller needs
+ * none of them; the numbers of refusals are in vembopu.h.
+ *
+ * R = 3t + 6 is the number of rounds. A table has the byte for round r, from i,
+ * to j at ((r-1)*n + (i-1))*n + (j-1). In marks, bit i-1 is set if station i is
+ * marked, which is to say bad. An outcome is three bytes a station: value,
+ * grade 0 to 2, flag 0 or 1; a bad station's are 255.
+ *
+ * Each call answers with the number of the refusal, 0 if accepted. Any content
+ * may be handed in. A call reads nothing but its arguments and the bytes that
+ * they point to, keeps nothing, and the same arguments always give the same
+ * answer and the same bytes. It writes only what is said below, and nothing at
+ * all if it is refused. It calls nothing but memcpy and memset, which it takes
+ * from the C library.
+ *
+ * A pointer has to point to as many bytes as its length says, which nobody else
+ * writes during the call. It may be NULL only if that length is 0. No call
+ * accepts a length of 0: a sheet of no bytes is refused by 1, any other buffer
+ * by 8, if no lower number comes first. A buffer that is written must not
+ * overlap another one, and nobody else reads it during the call; buffers that
+ * are only read may overlap.
+ */
+#ifndef VEMBOPU_EXPORTS_H
+#define VEMBOPU_EXPORTS_H
+
+#include "vembopu.h"
+
+#ifdef __cplusplus
+extern "C" {
+#endif
+
+/*
+ * Bytes of stack that a call needs at most, as in vembopu.h, with memcpy and
+ * memset of the GNU C library. Where these are bound at their first use, the
+ * dynamic linker needs more in the first call.
+ */
+enum {
+    VEMBOPU_STACK_READ = 37120,
+    VEMBOPU_STACK_REHEARSE = 2304,
+    VEMBOPU_STACK_EXCHANGE = 448
+};
+
+/*
+ * Reads a run sheet into a run table.
+ *
+ * sheet      12 bytes of header: n, t, T, sender, value, 0, index of the first
+ *            record or 0 (two bytes), marks (four bytes); then k records of 8,
+ *            k at most 4,096: round, from, to, ballot, next index or 0 (two
+ *            bytes), 0, 0. Low bytes first; records are counted from 1. Only
+ *            read.
+ * sheet_len  12 + 8k
+ * table      the run table; written: the chained records' ballots in their
+ *            places, 255 everywhere else
+ * table_len  R*n*n, with the n and the t of the header
+ *
+ * Refused: the lowest of 1, 2, 3, 4, 5, 6, 8; then 9 or 10 on the way through
+ * the chain; then 11, 12 or 13, by the first record in the order of the chain
+ * that is refused, the lowest of the three.
+ */
+uint8_t vembopu_read(const uint8_t *sheet, size_t sheet_len,
+                     uint8_t *table, size_t table_len);
+
+/*
+ * Rehearses a broadcast.
+ *
+ * n, t, T       as in vembopu.h
+ * sender        1 to n
+ * value         what the sender broadcasts, 0 or 1, also where it is marked
+ * marks         the bad stations
+ * table         a run table. Only the bytes of marked senders have effect, and
+ *               of these only the ones of a round in which that station should
+ *               speak. Only read.
+ * log           written, laid out like the table: what each good station sends,
+ *               255 where it doesn't speak; a bad one's bytes as in the table
+ * outcomes      written
+ * table_len     R*n*n
+ * log_len       R*n*n
+ * outcomes_len  3*n
+ *
+ * Refused: the lowest of 2, 3, 4, 5, 6, 8.
+ */
+uint8_t vembopu_rehearse(uint8_t n, uint8_t t, uint8_t T, uint8_t sender,
+                         uint8_t value, uint32_t marks,
+                         const uint8_t *table, size_t table_len,
+                         uint8_t *log, size_t log_len,
+                         uint8_t *outcomes, size_t outcomes_len);
+
+/*
+ * The graded exchange of a whole line.
+ *
+ * n, t, T       as in vembopu.h
+ * marks         the bad stations
+ * inputs        station i's input, 0 or 1, at inputs[i - 1]; a marked station's
+ *               isn't looked at. Only read.
+ * table         like a run table, of two rounds. Only the bytes of marked
+ *               senders have effect. Only read.
+ * outcomes      written; the flag is 1 if the grade is below 2
+ * inputs_len    n
+ * table_len     2*n*n
+ * outcomes_len  3*n
+ *
+ * Refused: the lowest of 2, 3, 5, 6, 8; by 5 only if inputs_len is n.
+ */
+uint8_t vembopu_exchange(uint8_t n, uint8_t t, uint8_t T, uint32_t marks,
+                         const uint8_t *inputs, size_t inputs_len,
+                         const uint8_t *table, size_t table_len,
+                         uint8_t *outcomes, size_t outcomes_len);
+
+#ifdef __cplusplus
+}
+#endif
+
+#endif

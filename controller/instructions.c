@@ -1,0 +1,122 @@
+/*
+ * The calls whose instructions tests/instructions counts, all on a line of 32
+ * stations with t = T = 10. Without an argument: a line for each, with the
+ * call's name, what it is given, and over how many of what its instructions
+ * are spread. With the number of a line: makes that call once, and ends with
+ * its refusal number, 0 if accepted.
+ */
+#include "exports.h"
+#include "inputs.h"
+
+#include <stdio.h>
+#include <stdlib.h>
+
+static uint8_t sheet[SHEET], table[TABLE], logged[TABLE], outcomes[OUTCOMES], row[INPUTS];
+
+/* ---- By marks, or by the number of records ---- */
+
+static uint32_t rehearse(uint32_t marks)
+{
+    return vembopu_rehearse(32, 10, 10, 1, 1, marks, table, TABLE, logged, TABLE, outcomes, OUTCOMES);
+}
+
+static uint32_t exchange(uint32_t marks)
+{
+    return vembopu_exchange(32, 10, 10, marks, row, INPUTS, table, EXCHANGE_TABLE, outcomes, OUTCOMES);
+}
+
+static uint32_t read_sheet(uint32_t k)
+{
+    size_t len = make_sheet(sheet, k);
+    return vembopu_read(sheet, len, table, TABLE);
+}
+
+/* ---- By the round, of king 1, which isn't the sender, at grade 0 ---- */
+
+#define NUMBERS 32, 10, 10, 2, 1
+
+static struct vembopu_station station(uint32_t round)
+{
+    struct vembopu_station s = {NUMBERS, (uint8_t)round, 1, 1, 0};
+    return s;
+}
+
+static uint32_t state(uint32_t round)
+{
+    struct vembopu_station s = station(round);
+    return vembopu_state_of(&s);
+}
+
+static uint32_t open_station(uint32_t round)
+{
+    (void)round;
+    return vembopu_refusal(vembopu_open(NUMBERS, 1));
+}
+
+static uint32_t ballot(uint32_t round)
+{
+    return vembopu_refusal(vembopu_ballot(NUMBERS, state(round)));
+}
+
+static uint32_t advance(uint32_t round)
+{
+    return vembopu_refusal(vembopu_advance(NUMBERS, state(round), row, INPUTS));
+}
+
+static uint32_t advance_lent(uint32_t round)
+{
+    struct vembopu_station s = station(round);
+    return vembopu_advance_lent(&s, row, INPUTS);
+}
+
+static uint32_t result(uint32_t round)
+{
+    return vembopu_refusal(vembopu_result(NUMBERS, state(round)));
+}
+
+/* ---- */
+
+#define EACH_ROUND(name, make)                             \
+    {name, "sender's round", 1, "call", make, 1},          \
+    {name, "first round of an exchange", 1, "call", make, 2},  \
+    {name, "second round of an exchange", 1, "call", make, 3}, \
+    {name, "king's round", 1, "call", make, 4}
+
+static const struct {
+    const char *name, *given;
+    unsigned long units;
+    const char *unit;
+    uint32_t (*make)(uint32_t);
+    uint32_t by;
+} calls[] = {
+    {"vembopu_rehearse", "none marked", TABLE, "ballot", rehearse, 0},
+    {"vembopu_rehearse", "10 marked", TABLE, "ballot", rehearse, 0x3ffu},
+    {"vembopu_rehearse", "32 marked", TABLE, "ballot", rehearse, 0xffffffffu},
+    {"vembopu_exchange", "none marked", EXCHANGE_TABLE, "ballot", exchange, 0},
+    {"vembopu_exchange", "10 marked", EXCHANGE_TABLE, "ballot", exchange, 0x3ffu},
+    {"vembopu_exchange", "32 marked", EXCHANGE_TABLE, "ballot", exchange, 0xffffffffu},
+    {"vembopu_read", "no record", 0, "record", read_sheet, 0},
+    {"vembopu_read", "1,024 records", 1024, "record", read_sheet, 1024},
+    {"vembopu_read", "2,048 records", 2048, "record", read_sheet, 2048},
+    {"vembopu_read", "4,096 records", 4096, "record", read_sheet, 4096},
+    {"vembopu_open", "before round 1", 1, "call", open_station, 0},
+    EACH_ROUND("vembopu_ballot", ballot),
+    EACH_ROUND("vembopu_advance", advance),
+    EACH_ROUND("vembopu_advance_lent", advance_lent),
+    {"vembopu_result", "running", 1, "call", result, 1},
+    {"vembopu_result", "done", 1, "call", result, 37},
+};
+
+int main(int argc, char **argv)
+{
+    size_t line = argc > 1 ? (size_t)strtoul(argv[1], NULL, 10) : 0;
+    memset(row, 1, sizeof row);
+    memset(table, 1, sizeof table);
+    if (line > COUNT(calls))
+        return 2;
+    if (line > 0)
+        return (int)calls[line - 1].make(calls[line - 1].by);
+    for (size_t i = 0; i < COUNT(calls); i++)
+        printf("%s\t%s\t%lu\t%s\n", calls[i].name, calls[i].given, calls[i].units, calls[i].unit);
+    return 0;
+}

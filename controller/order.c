@@ -1,0 +1,386 @@
+/*
+ * The order of parameters, and of a lent station's fields, as C sees it. Each
+ * call has examples with the answers that document 01 gives. For every two
+ * parameters of one type there is an example whose answer changes when the two
+ * are exchanged: the program exchanges them and looks. Where document 01 treats
+ * two of them alike, exchanging them must never change an answer.
+ */
+#define _DEFAULT_SOURCE
+#include "check.h"
+#include "exports.h"
+
+#include <string.h>
+
+enum { BYTES = 9, BUFFERS = 3, SPACE = 128, UNWRITTEN = 170 };
+
+/* A call's arguments of one byte in the order of its header; after these the
+   state's round, value, z and grade, or the whole lent station alone; marks;
+   buffers. */
+struct arguments {
+    uint8_t byte[BYTES];
+    uint32_t marks;
+    uint8_t *at[BUFFERS];
+    size_t len[BUFFERS];
+};
+
+/* ---- The calls: each answers with its 64 bits, or with its number ---- */
+
+#define NUMBERS(a) (a)->byte[0], (a)->byte[1], (a)->byte[2], (a)->byte[3], (a)->byte[4]
+#define BUFFER(a, k) (a)->at[k], (a)->len[k]
+
+/* Bytes 5 to 8 as a state. */
+static uint32_t state(const struct arguments *a)
+{
+    return (uint32_t)a->byte[5] | (uint32_t)a->byte[6] << 8 | (uint32_t)a->byte[7] << 16 |
+           (uint32_t)a->byte[8] << 24;
+}
+
+static uint64_t run_open(struct arguments *a)
+{
+    return vembopu_open(NUMBERS(a), a->byte[5]);
+}
+
+static uint64_t run_ballot(struct arguments *a)
+{
+    return vembopu_ballot(NUMBERS(a), state(a));
+}
+
+static uint64_t run_result(struct arguments *a)
+{
+    return vembopu_result(NUMBERS(a), state(a));
+}
+
+/* The new state takes the old one's place. */
+static uint64_t run_advance(struct arguments *a)
+{
+    uint64_t answer = vembopu_advance(NUMBERS(a), state(a), BUFFER(a, 0));
+    for (int k = 0; k < 4; k++)
+        a->byte[5 + k] = (uint8_t)(vembopu_state(answer) >> 8 * k & 255);
+    return vembopu_refusal(answer);
+}
+
+/* The station by the names of its fields, before and after. */
+static uint64_t run_advance_lent(struct arguments *a)
+{
+    struct vembopu_station s;
+    uint8_t *const field[BYTES] = {&s.n, &s.t, &s.T, &s.sender, &s.own, &s.round, &s.value, &s.z, &s.grade};
+    for (int k = 0; k < BYTES; k++)
+        *field[k] = a->byte[k];
+    uint64_t number = vembopu_advance_lent(&s, BUFFER(a, 0));
+    for (int k = 0; k < BYTES; k++)
+        a->byte[k] = *field[k];
+    return number;
+}
+
+static uint64_t run_read(struct arguments *a)
+{
+    return vembopu_read(BUFFER(a, 0), BUFFER(a, 1));
+}
+
+static uint64_t run_rehearse(struct arguments *a)
+{
+    return vembopu_rehearse(NUMBERS(a), a->marks, BUFFER(a, 0), BUFFER(a, 1), BUFFER(a, 2));
+}
+
+static uint64_t run_exchange(struct arguments *a)
+{
+    return vembopu_exchange(a->byte[0], a->byte[1], a->byte[2], a->marks, BUFFER(a, 0), BUFFER(a, 1), BUFFER(a, 2));
+}
+
+/* `state` is the first byte of a state, or 0 where all bytes are of one kind;
+   the two of `alike` and of `alike_len` may be exchanged. */
+static const struct call {
+    const char *name;
+    uint64_t (*run)(struct arguments *);
+    int bytes, state, buffers;
+    int alike[2], alike_len[2];
+} calls[] = {
+    {"vembopu_open", run_open, 6, 0, 0, {3, 4}, {0, 0}},
+    {"vembopu_ballot", run_ballot, 9, 5, 0, {0, 0}, {0, 0}},
+    {"vembopu_advance", run_advance, 9, 5, 1, {0, 0}, {0, 0}},
+    {"vembopu_result", run_result, 9, 5, 0, {3, 4}, {0, 0}},
+    {"vembopu_advance_lent", run_advance_lent, 9, 0, 1, {0, 0}, {0, 0}},
+    {"vembopu_read", run_read, 0, 0, 2, {0, 0}, {0, 0}},
+    {"vembopu_rehearse", run_rehearse, 5, 0, 3, {0, 0}, {0, 1}},
+    {"vembopu_exchange", run_exchange, 3, 0, 3, {0, 0}, {0, 0}},
+};
+
+enum { OPEN, BALLOT, ADVANCE, RESULT, ADVANCE_LENT, READ, REHEARSE, EXCHANGE, CALLS };
+
+/* ---- The examples ---- */
+
+struct example {
+    int call;
+    uint8_t byte[BYTES];
+    uint32_t marks;
+    const uint8_t *before[BUFFERS];
+    size_t len[BUFFERS];
+    uint64_t answer;
+    const uint8_t *state;          /* bytes 5 to 8 after the call, if others */
+    const uint8_t *after[BUFFERS]; /* of those that are written */
+};
+
+/* One sender's bytes to four receivers, one round's, five rounds'. */
+#define TO_ALL(b) b, b, b, b
+#define ROUND(a, b, c, d) TO_ALL(a), TO_ALL(b), TO_ALL(c), TO_ALL(d)
+#define FIVE(round) round, round, round, round, round
+
+/* Case B: n 4, t 0, T 1, sender 4, station 4 bad. It sends 1, 0, 0 in round 1;
+   9 stands for what has no effect. */
+#define LIAR 1, 0, 0, 255
+#define NO_EFFECT ROUND(9, 9, 9, 255)
+#define SILENT ROUND(255, 255, 255, 255)
+static const uint8_t b_sheet[] = {
+    4, 0, 1, 4, 0, 0, 1, 0, 8, 0, 0, 0,
+    1, 4, 1, 1, 2, 0, 0, 0,
+    1, 4, 2, 0, 3, 0, 0, 0,
+    1, 4, 3, 0, 0, 0, 0, 0,
+};
+static const uint8_t b_read[] = {TO_ALL(255), TO_ALL(255), TO_ALL(255), LIAR, FIVE(SILENT)};
+static const uint8_t b_table[] = {TO_ALL(9), TO_ALL(9), TO_ALL(9), LIAR, FIVE(NO_EFFECT)};
+/* x is 1, 0, 0; z blank, 0, 0; two zeros are grade 0, y 0; the king, station 1,
+   sends 0; then three zeros are grade 1. */
+static const uint8_t b_log[] = {TO_ALL(255), TO_ALL(255), TO_ALL(255), LIAR, ROUND(1, 0, 0, 255),
+                                ROUND(2, 0, 0, 255), ROUND(0, 255, 255, 255), ROUND(0, 0, 0, 255),
+                                ROUND(0, 0, 0, 255)};
+static const uint8_t b_outcomes[] = {0, 1, 1, 0, 1, 1, 0, 1, 1, 255, 255, 255};
+
+/* The same line, none bad, station 3 sends a one. */
+static const uint8_t good_table[] = {NO_EFFECT, FIVE(NO_EFFECT)};
+static const uint8_t good_log[] = {ROUND(255, 255, 1, 255), ROUND(1, 1, 1, 1), ROUND(1, 1, 1, 1),
+                                   ROUND(1, 255, 255, 255), ROUND(1, 1, 1, 1), ROUND(1, 1, 1, 1)};
+static const uint8_t good_outcomes[] = {1, 2, 0, 1, 2, 0, 1, 2, 0, 1, 2, 0};
+
+/* Case B's first exchange, had alone. */
+static const uint8_t inputs[] = {1, 0, 0, 9};
+static const uint8_t exchange_table[] = {NO_EFFECT, NO_EFFECT};
+static const uint8_t exchange_outcomes[] = {0, 0, 1, 0, 0, 1, 0, 0, 1, 255, 255, 255};
+
+/* Rows of a line of 16 with t 2 and T 5: n-T is 11, n-t is 14. */
+static const uint8_t from_9[16] = {0, 0, 0, 0, 0, 0, 0, 0, 1, 0, 0, 0, 0, 0, 0, 0};
+static const uint8_t eleven_ones[16] = {1, 1, 1, 1, 1, 1, 1, 1, 1, 1, 1, 0, 2, 255, 7, 0};
+static const uint8_t thirteen_zeros[16] = {0, 0, 0, 0, 0, 0, 0, 0, 0, 0, 0, 0, 0, 1, 1, 2};
+static const uint8_t king_1[16] = {0, 1, 1, 1, 1, 1, 1, 1, 1, 1, 1, 1, 1, 1, 1, 1};
+static const uint8_t after_sender[] = {2, 1, 2, 0}, after_first[] = {3, 1, 1, 2}, after_second[] = {4, 0, 1, 1},
+                     after_king[] = {5, 0, 2, 0};
+
+/* A row, to a station by value and to a lent one. */
+#define TAKES(row, after, ...)                                                                            \
+    {.call = ADVANCE, .byte = {__VA_ARGS__}, .before = {row}, .len = {sizeof row}, .state = after},       \
+    {.call = ADVANCE_LENT, .byte = {__VA_ARGS__}, .before = {row}, .len = {sizeof row}, .state = after}
+
+static const struct example examples[] = {
+    /* round 1, value 0, z blank, grade 0 */
+    {.call = OPEN, .byte = {7, 1, 2, 3, 4, 0}, .answer = 0x00020001u},
+    /* king 3 sends its y in round 10; in the second round of an exchange, z */
+    {.call = BALLOT, .byte = {16, 2, 5, 7, 3, 10, 1, 2, 0}, .answer = 1},
+    {.call = BALLOT, .byte = {16, 2, 5, 7, 3, 3, 1, 0, 2}, .answer = 0},
+    TAKES(from_9, after_sender, 16, 2, 5, 9, 7, 1, 0, 2, 0),
+    TAKES(eleven_ones, after_first, 16, 2, 5, 9, 7, 2, 1, 0, 2),
+    TAKES(thirteen_zeros, after_second, 16, 2, 5, 9, 7, 3, 1, 1, 0),
+    TAKES(king_1, after_king, 16, 2, 5, 9, 7, 4, 1, 2, 0),
+    /* running in round 5; done after R = 12, with value 0, grade 1, flag 1 */
+    {.call = RESULT, .byte = {16, 2, 5, 9, 7, 5, 1, 2, 0}, .answer = 0x00000500u},
+    {.call = RESULT, .byte = {16, 2, 5, 9, 7, 13, 0, 2, 1}, .answer = 0x01010001u},
+    {.call = READ, .before = {b_sheet}, .len = {sizeof b_sheet, sizeof b_read}, .after = {NULL, b_read}},
+    {.call = REHEARSE, .byte = {4, 0, 1, 4, 0}, .marks = 8, .before = {b_table},
+     .len = {sizeof b_table, sizeof b_log, sizeof b_outcomes}, .after = {NULL, b_log, b_outcomes}},
+    {.call = REHEARSE, .byte = {4, 0, 1, 3, 1}, .marks = 0, .before = {good_table},
+     .len = {sizeof good_table, sizeof good_log, sizeof good_outcomes}, .after = {NULL, good_log, good_outcomes}},
+    {.call = EXCHANGE, .byte = {4, 0, 1}, .marks = 8, .before = {inputs, exchange_table},
+     .len = {sizeof inputs, sizeof exchange_table, sizeof exchange_outcomes},
+     .after = {NULL, NULL, exchange_outcomes}},
+};
+
+enum { EXAMPLES = sizeof examples / sizeof examples[0] };
+
+/* ---- Exchanging two arguments ---- */
+
+enum kind { BYTE, LENGTH, POINTER, WHOLE, KINDS };
+static const char *const kind_name[KINDS] = {"bytes", "lengths", "pointers", "buffers"};
+
+struct pair {
+    enum kind kind;
+    int p, q;
+};
+
+/* Done twice, it is undone. */
+static void exchange(struct arguments *a, struct pair x)
+{
+    const struct arguments old = *a;
+    if (x.kind == BYTE) {
+        a->byte[x.p] = old.byte[x.q];
+        a->byte[x.q] = old.byte[x.p];
+    }
+    if (x.kind == LENGTH || x.kind == WHOLE) {
+        a->len[x.p] = old.len[x.q];
+        a->len[x.q] = old.len[x.p];
+    }
+    if (x.kind == POINTER || x.kind == WHOLE) {
+        a->at[x.p] = old.at[x.q];
+        a->at[x.q] = old.at[x.p];
+    }
+}
+
+/* ---- An example's call ---- */
+
+static uint8_t space[BUFFERS][SPACE];
+
+static void lay(uint8_t *to, const uint8_t *bytes, size_t len)
+{
+    memset(to, UNWRITTEN, SPACE);
+    if (bytes != NULL)
+        memcpy(to, bytes, len);
+}
+
+static struct arguments arguments_of(const struct example *e)
+{
+    struct arguments a;
+    memcpy(a.byte, e->byte, BYTES);
+    a.marks = e->marks;
+    for (int k = 0; k < BUFFERS; k++) {
+        lay(space[k], e->before[k], e->len[k]);
+        a.at[k] = space[k];
+        a.len[k] = e->len[k];
+    }
+    return a;
+}
+
+static int as_after(const struct example *e, const struct arguments *a)
+{
+    uint8_t want[SPACE];
+    int same = memcmp(a->byte, e->byte, 5) == 0 && memcmp(a->byte + 5, e->state ? e->state : e->byte + 5, 4) == 0;
+    for (int k = 0; k < BUFFERS; k++) {
+        lay(want, e->after[k] ? e->after[k] : e->before[k], e->len[k]);
+        same = same && memcmp(space[k], want, SPACE) == 0;
+    }
+    return same;
+}
+
+/* 1 if answer and bytes are the example's, with two arguments exchanged for the
+   call and back after it. */
+static int as_expected(const struct example *e, struct pair x)
+{
+    struct arguments a = arguments_of(e);
+    exchange(&a, x);
+    uint64_t answer = calls[e->call].run(&a);
+    exchange(&a, x);
+    return answer == e->answer && as_after(e, &a);
+}
+
+static void straight(void)
+{
+    static const struct pair none = {BYTE, 0, 0};
+    for (int k = 0; k < EXAMPLES; k++)
+        check(as_expected(&examples[k], none), "%s: example %d", calls[examples[k].call].name, k + 1);
+}
+
+/* ---- Every pair ---- */
+
+/* 1 if one of the call's examples changes. */
+static int is_seen(int call, struct pair x)
+{
+    int seen = 0;
+    for (int k = 0; k < EXAMPLES; k++)
+        if (examples[k].call == call)
+            seen = seen || !as_expected(&examples[k], x);
+    return seen;
+}
+
+static uint64_t answer_with(const struct example *e, struct pair x, int one, int other)
+{
+    struct arguments a = arguments_of(e);
+    if (x.kind == BYTE) {
+        a.byte[x.p] = (uint8_t)one;
+        a.byte[x.q] = (uint8_t)other;
+    } else {
+        a.len[x.p] = (size_t)one;
+        a.len[x.q] = (size_t)other;
+    }
+    return calls[e->call].run(&a);
+}
+
+/* Any two values below SPACE in place of the two, in each example of the call:
+   how many give another answer when exchanged. */
+static unsigned long changed(int call, struct pair x)
+{
+    unsigned long count = 0;
+    for (int i = 0; i < EXAMPLES * SPACE * SPACE; i++) {
+        const struct example *e = &examples[i / (SPACE * SPACE)];
+        int one = i / SPACE % SPACE, other = i % SPACE;
+        if (e->call == call && one < other)
+            count += answer_with(e, x, one, other) != answer_with(e, x, other, one);
+    }
+    return count;
+}
+
+static int is_alike(const struct call *c, struct pair x)
+{
+    const int *alike = x.kind == BYTE ? c->alike : c->alike_len;
+    return (x.kind == BYTE || x.kind == LENGTH) && alike[0] == x.p && alike[1] == x.q;
+}
+
+static void try_pair(int call, struct pair x)
+{
+    const struct call *c = &calls[call];
+    if (is_alike(c, x))
+        check(!is_seen(call, x) && changed(call, x) == 0, "%s: %s %d and %d are not alike", c->name,
+              kind_name[x.kind], x.p + 1, x.q + 1);
+    else
+        check(is_seen(call, x), "%s: %s %d and %d exchanged, and no example changes", c->name, kind_name[x.kind],
+              x.p + 1, x.q + 1);
+}
+
+/* A state's bytes are not exchanged with the numbers. */
+static void try_kind(int call, enum kind kind)
+{
+    const struct call *c = &calls[call];
+    int last = kind == BYTE ? c->bytes : c->buffers;
+    for (int i = 0; i < last * last; i++) {
+        struct pair x = {kind, i / last, i % last};
+        if (x.p < x.q && (kind != BYTE || (x.p < c->state) == (x.q < c->state)))
+            try_pair(call, x);
+    }
+}
+
+static void try_call(int call)
+{
+    unsigned long before = passed + failed;
+    for (int kind = 0; kind < KINDS; kind++)
+        try_kind(call, (enum kind)kind);
+    printf("%s: %lu pairs\n", calls[call].name, passed + failed - before);
+}
+
+/* The header's nine fields, in document 01's order. */
+static void offsets(void)
+{
+#define OFFSET(field) offsetof(struct vembopu_station, field)
+    static const size_t offset[BYTES] = {OFFSET(n),     OFFSET(t),     OFFSET(T), OFFSET(sender), OFFSET(own),
+                                         OFFSET(round), OFFSET(value), OFFSET(z), OFFSET(grade)};
+    for (size_t k = 0; k < BYTES; k++)
+        check(offset[k] == k, "field %lu of the station stands at %lu", (unsigned long)k, (unsigned long)offset[k]);
+    check(sizeof(struct vembopu_station) == BYTES, "a station has %lu bytes",
+          (unsigned long)sizeof(struct vembopu_station));
+}
+
+/* Each name of a refusal is document 01's number. */
+static void numbers(void)
+{
+    static const int named[] = {VEMBOPU_ACCEPTED,        VEMBOPU_BAD_SHEET,     VEMBOPU_BAD_N,
+                                VEMBOPU_BAD_THRESHOLDS,  VEMBOPU_BAD_NUMBER,    VEMBOPU_BAD_VALUE,
+                                VEMBOPU_BAD_MARKS,       VEMBOPU_BAD_STATE,     VEMBOPU_BAD_LENGTH,
+                                VEMBOPU_CHAIN_LEAVES,    VEMBOPU_CHAIN_REPEATS, VEMBOPU_BAD_RECORD,
+                                VEMBOPU_UNMARKED_SENDER, VEMBOPU_DUPLICATE};
+    for (int k = 0; k < 14; k++)
+        check(named[k] == k, "the name of refusal %d is %d", k, named[k]);
+}
+
+int main(void)
+{
+    straight();
+    offsets();
+    numbers();
+    for (int call = 0; call < CALLS; call++)
+        try_call(call);
+    return closing_count();
+}
