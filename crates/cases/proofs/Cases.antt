@@ -70,6 +70,7 @@ both-hold = (
       then (fate _, refl)
       then (fate _, refl)
       then (fate _, refl)
+      then (fate _, refl)
       then tt,
 )
 

@@ -1,7 +1,8 @@
 -- Further sheets, beside document 01's cases A to H: a second table. A comment quotes the sentence that the row shows.
 use Prim.Native.Nat.{ℕ}
 use mathlib.Core.List.{List, [], _∷_, _++_}
-use Rattle.cases.specs.Table.{Wanted, prints, writes, accepted, refused-by, Case, head, rec, good, bad, opening}
+use Rattle.listing.specs.Theorems.{longest-listing}
+use Rattle.cases.specs.Table.{Wanted, prints, writes, is-long, accepted, refused-by, Case, head, rec, good, bad, opening}
 
 -- ---- runs
 
@@ -71,6 +72,13 @@ two-digits = record {
       ++ (49 ∷ 49 ∷ 32 ∷ 48 ∷ 32 ∷ 48 ∷ 32 ∷ 49 ∷ 10 ∷ []));
 }
 
+-- every number that can have two digits has two: the longest listing (`Listing-short` of crate listing). All stations are marked.
+abbrev pub longest : Case
+longest = record {
+  sheet = 32 ∷ 10 ∷ 10 ∷ 32 ∷ 1 ∷ 0 ∷ 0 ∷ 0 ∷ 255 ∷ 255 ∷ 255 ∷ 255 ∷ [];
+  comes-out = is-long longest-listing;
+}
+
 -- "A refusal prints the one line `refused` and the number.": refused 12, with its newline
 abbrev pub refused-12 : List ℕ
 refused-12 = 114 ∷ 101 ∷ 102 ∷ 117 ∷ 115 ∷ 101 ∷ 100 ∷ 32 ∷ 49 ∷ 50 ∷ 10 ∷ []
@@ -95,6 +103,7 @@ further =
     ∷ record { sheet = four-marked ++ rec 1 28 1 1 2 ++ rec 1 19 1 1 3 ++ rec 1 10 1 1 4 ++ rec 1 1 1 1 0; comes-out = accepted }
     ∷ record { sheet = four-marked ++ rec 1 27 1 1 0; comes-out = refused-by 12 }
     ∷ two-digits
+    ∷ longest
     -- 4: "sender or own station outside 1 to n"
     ∷ headed 0 1 8 (refused-by 4)
     ∷ headed 5 1 8 (refused-by 4)

@@ -2,15 +2,18 @@
 use Prim.Native.Nat.{ℕ}
 use mathlib.Core.Path.{_≡_}
 use mathlib.Core.List.{List, [], _∷_}
+use lib.ListN.{length}
 use Rattle.line.specs.Cause.{code}
 use Rattle.sheet.specs.Chain.{Fate}
 use Rattle.listing.specs.Lines.{Field, agree, num, dash, verdict, lines}
 use Rattle.listing.specs.Text.{text}
 
--- what is wanted of a sheet: its listing's lines, or its text byte by byte, or that it is accepted, or the number that it is refused by
+-- what is wanted of a sheet: its listing's lines, or its text byte by byte, or the text's length, or that it is accepted, or the number that it is
+-- refused by
 pub data Wanted : Type 0 where
   prints : List (List Field) → Wanted
   writes : List ℕ → Wanted
+  is-long : ℕ → Wanted
   accepted : Wanted
   refused-by : ℕ → Wanted
 
@@ -22,6 +25,7 @@ pub record Case : Type 0 where
 abbrev pub Comes : (s : List ℕ) → Wanted → Type 0
 Comes s (prints l) = (fate : Fate s) × (lines s fate ≡ l)
 Comes s (writes b) = (fate : Fate s) × (text (lines s fate) ≡ b)
+Comes s (is-long k) = (fate : Fate s) × (length (text (lines s fate)) ≡ k)
 Comes s accepted = (fate : Fate s) × (code (verdict s fate) ≡ 0)
 Comes s (refused-by k) = (fate : Fate s) × (code (verdict s fate) ≡ k)
 

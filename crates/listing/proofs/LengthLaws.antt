@@ -120,7 +120,7 @@ module _ (s : List ℕ) (lent : ℕ) (fate : Fate s) where
       bytes : List ℕ
       bytes = outcomes (run (header s) (table-of s fate))
 
-      go : (v : Verdict) → sheet-verdict s lent fate ≡ v → length (text (lines-by v (header s) bytes)) ≤ 300
+      go : (v : Verdict) → sheet-verdict s lent fate ≡ v → length (text (lines-by v (header s) bytes)) ≤ longest-listing
       go Accepted e =
           let h = header s in
           let sound = sound-if e in

@@ -42,7 +42,8 @@ Listing-whole =
     (s : List ℕ) (table log : ℕ) (fate : Fate s) → largest-table ≤ table → largest-table ≤ log
     → listing s (front s table log) fate ≡ text (lines s fate)
 
--- no listing is longer: 32 stations, numbers of at most two digits, and outcome bytes of one
+-- no listing is longer: the first line has at most 21 bytes, the lines of stations 1 to 9 have 8 and those of 10 to 32 have 9. One is as long
+-- (`longest` of crate cases).
 abbrev pub longest-listing : ℕ
 longest-listing = 300
 
