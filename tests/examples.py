@@ -1,7 +1,7 @@
 #!/usr/bin/env python3
 """The examples: run sheets with their listings.
 
-examples.py          writes examples/: document 01's cases A to D, and a large run in which ten bad stations divide the good ones
+examples.py          writes examples/: document 01's cases A to D, a large run in which ten bad stations divide the good ones, and the longest listing
 examples.py --check  holds each sheet to the one made here, its listing to the model's, and what the program prints to the listing; then some
                      inputs of odd lengths, and the command ./agree. The last line is 'N passed, M failed'
 """
@@ -14,7 +14,7 @@ import sheet as reader
 
 TOP = os.path.join(os.path.dirname(os.path.abspath(__file__)), "..")
 EXAMPLES = os.path.join(TOP, "examples")
-LARGEST_TABLE = 36864
+LARGEST_TABLE, LONGEST_LISTING = 36864, 300
 PROGRAM = os.path.join(TOP, "target", "bin", "agree")
 COMMAND = os.path.join(TOP, "agree")
 
@@ -83,6 +83,8 @@ def sheets():
         "d": sheet_of(1, 0, 0, 1, 0, [], []),
         "d-bad": sheet_of(1, 0, 0, 1, 0, [1], []),
         "large": large(),
+        # every number that can have two digits has two: n, t, T, the sender and R
+        "longest": sheet_of(32, 10, 10, 32, 1, [], []),
     }
 
 
@@ -128,6 +130,7 @@ def checks():
         yield f"{name}: the sheet is the one made here", sheet == made
         yield f"{name}: the listing is the model's", text.decode() == listing(sheet)
         yield f"{name}: the program prints it", printed(sheet) == text
+    yield f"longest: the listing has {LONGEST_LISTING} bytes", len(read(os.path.join(EXAMPLES, "longest.txt"))) == LONGEST_LISTING
     for name, sheet in odd_inputs().items():
         expected = listing(sheet)
         yield f"{name}: {expected.split(chr(10))[0]}", printed(sheet) == expected.encode()

@@ -1,27 +1,26 @@
 // Reads a run sheet on standard input and writes its listing to standard output.
 ghost use Rattle.io.specs.Counts.{Counts};
+ghost use Rattle.listing.specs.Promise.{Listed};
 use libc::STDERR_FILENO;
 use libc::STDIN_FILENO;
 use libc::STDOUT_FILENO;
 
-// The length, or the buffer's where that is less.
-fn within(len: usize, buffer: &[u8]) -> usize
-    ensures { λ r. ⌜ Counts r (now (buffer .entry)) ⌝ }
-{
-    if len < buffer.len() {
-        len
-    } else {
-        buffer.len()
-    }
-}
+// The longest listing (`Listing-short` of crate listing).
+const LONGEST: usize = 300;
 
-// Lists a sheet. No listing is longer than 538 bytes (`Listing-short` of crate listing).
-fn list(sheet: &[u8]) {
+// The whole listing of a sheet, at the start of the text: with buffers for the largest table and the longest listing nothing is cut.
+fn listed(sheet: &[u8], text: &mut [u8; LONGEST]) -> usize
+    ensures { λ r. ⌜ Listed (now (sheet .entry)) (now (text .exit)) r × Counts r (now (text .exit)) ⌝ }
+{
     let mut table = [255; 36864];
     let mut log = [255; 36864];
-    let mut text = [0u8; 1024];
-    let len = listing::list(sheet, &mut table, &mut log, &mut text);
-    let n = within(len, &text);
+    listing::list(sheet, &mut table, &mut log, text)
+}
+
+// Lists a sheet.
+fn list(sheet: &[u8]) {
+    let mut text = [0u8; LONGEST];
+    let n = listed(sheet, &mut text);
     if !io::write_all(STDOUT_FILENO, &text[..n]) {
         io::write_all(STDERR_FILENO, b"agree: the listing could not be written\n");
     }

@@ -1,4 +1,4 @@
--- Every row of the table holds: by computation, from the definitions that the calls promise. Assumes nothing.
+-- Every row of both tables holds: by computation, from the definitions that the calls promise. Assumes nothing.
 use mathlib.Core.Path.{refl}
 use Rattle.line.specs.Count.{count}
 use Rattle.line.specs.Line.{place}
@@ -17,30 +17,65 @@ use Rattle.sheet.specs.Reading.{place-of, filled}
 use Rattle.sheet.proofs.ChainLaws.{kind, walk, fate}
 use Rattle.listing.specs.Lines.{station-line, station-lines, verdict, lines}
 use Rattle.listing.specs.Text.{decimal}
-use Rattle.cases.specs.Cases.{All, cases}
+use Rattle.cases.specs.Table.{All}
+use Rattle.cases.specs.Cases.{cases}
+use Rattle.cases.specs.Further.{further}
 
 infixr 5 _then_
 _then_ : {A B : Type 0} → A → B → A × B
 a then b = (a, b)
 
-pub cases-hold : All cases
+both-hold : All cases × All further
 unfolding count place marked bit-or read-sender read-first read-second read-king refused-if outside station-count exceeded thresholds station-number bit mark-beyond marks-within exact-length header-verdict tally firsts seconds z-of y-of grade-of flag-of sends first-row z second-row y grade phases first-round obey x-after y-after grade-after value-of final-grade final-flag at tabulate setting outcome-byte outcome-bytes outcomes byte two four header spare first records start round from to ballot next rest is-record after reached ill-formed sheet-form line-and-length opening-verdict misplaced record-form unmarked-sender same-place taken-before duplicate record-verdict records-verdict sheet-verdict place-of filled kind walk fate station-line station-lines verdict lines decimal
-cases-hold =
-    (fate _, refl, refl)
-    then (fate _, refl, refl)
-    then (fate _, refl, refl)
-    then (fate _, refl, refl)
-    then (fate _, refl, refl)
-    then (fate _, refl, refl)
-    then (fate _, refl)
-    then (fate _, refl)
-    then (fate _, refl)
-    then (fate _, refl)
-    then (fate _, refl)
-    then (fate _, refl)
-    then (fate _, refl)
-    then (fate _, refl)
-    then (fate _, refl)
-    then (fate _, refl)
-    then (fate _, refl)
-    then tt
+both-hold = (
+  (fate _, refl)
+      then (fate _, refl)
+      then (fate _, refl)
+      then (fate _, refl)
+      then (fate _, refl)
+      then (fate _, refl)
+      then (fate _, refl)
+      then (fate _, refl)
+      then (fate _, refl)
+      then (fate _, refl)
+      then (fate _, refl)
+      then (fate _, refl)
+      then (fate _, refl)
+      then (fate _, refl)
+      then (fate _, refl)
+      then (fate _, refl)
+      then (fate _, refl)
+      then tt,
+  (fate _, refl)
+      then (fate _, refl)
+      then (fate _, refl)
+      then (fate _, refl)
+      then (fate _, refl)
+      then (fate _, refl)
+      then (fate _, refl)
+      then (fate _, refl)
+      then (fate _, refl)
+      then (fate _, refl)
+      then (fate _, refl)
+      then (fate _, refl)
+      then (fate _, refl)
+      then (fate _, refl)
+      then (fate _, refl)
+      then (fate _, refl)
+      then (fate _, refl)
+      then (fate _, refl)
+      then (fate _, refl)
+      then (fate _, refl)
+      then (fate _, refl)
+      then (fate _, refl)
+      then (fate _, refl)
+      then (fate _, refl)
+      then (fate _, refl)
+      then tt,
+)
+
+pub cases-hold : All cases
+cases-hold = both-hold .0
+
+pub further-hold : All further
+further-hold = both-hold .1

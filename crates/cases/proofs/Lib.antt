@@ -1,2 +1,2 @@
--- Cases has the one proof that every row of the table of specs/Cases.antt holds.
+-- Cases has the one proof that every row of the tables of specs/Cases.antt and specs/Further.antt holds.
 pub mod Cases

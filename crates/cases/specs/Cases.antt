@@ -1,55 +1,7 @@
 -- The cases A to H of document 01, "Runs worked through": one table, a row for each sheet.
 use Prim.Native.Nat.{ℕ}
-use mathlib.Core.Path.{_≡_}
 use mathlib.Core.List.{List, [], _∷_, _++_}
-use Rattle.line.specs.Cause.{code}
-use Rattle.sheet.specs.Chain.{Fate}
-use Rattle.listing.specs.Lines.{Field, agree, num, dash, verdict, lines}
-use Rattle.listing.specs.Text.{text}
-
--- what must come out of a sheet: its listing's lines, or its text byte by byte, or that it is accepted, or the number that it is refused by
-pub data Outcome : Type 0 where
-  prints : List (List Field) → Outcome
-  writes : List ℕ → Outcome
-  accepted : Outcome
-  refused-by : ℕ → Outcome
-
-pub record Case : Type 0 where
-  pub sheet : List ℕ
-  pub comes-out : Outcome
-
--- it comes out, by the definitions that the calls promise
-abbrev pub Comes : (s : List ℕ) → Outcome → Type 0
-Comes s (prints l) = (fate : Fate s) × (code (verdict s fate) ≡ 0) × (lines s fate ≡ l)
-Comes s (writes b) = (fate : Fate s) × (code (verdict s fate) ≡ 0) × (text (lines s fate) ≡ b)
-Comes s accepted = (fate : Fate s) × (code (verdict s fate) ≡ 0)
-Comes s (refused-by k) = (fate : Fate s) × (code (verdict s fate) ≡ k)
-
--- ---- sheets
-
--- a header with fewer than nine stations marked: n, t, T, sender, value, first index, marks
-abbrev pub head : ℕ → ℕ → ℕ → ℕ → ℕ → ℕ → ℕ → List ℕ
-head n t T sender value first marks =
-    n ∷ t ∷ T ∷ sender ∷ value ∷ 0 ∷ first ∷ 0 ∷ marks ∷ 0 ∷ 0 ∷ 0 ∷ []
-
--- a record: round, from, to, ballot, next index
-abbrev pub rec : ℕ → ℕ → ℕ → ℕ → ℕ → List ℕ
-rec round from to ballot next = round ∷ from ∷ to ∷ ballot ∷ next ∷ 0 ∷ 0 ∷ 0 ∷ []
-
--- ---- lines
-
--- a good station's line: number, value, grade, flag
-abbrev pub good : ℕ → ℕ → ℕ → ℕ → List Field
-good i value grade flag = num i ∷ num value ∷ num grade ∷ num flag ∷ []
-
-abbrev pub bad : ℕ → List Field
-bad i = num i ∷ dash ∷ dash ∷ dash ∷ []
-
--- the first line: n, t, T, sender, R
-abbrev pub opening : ℕ → ℕ → ℕ → ℕ → ℕ → List Field
-opening n t T sender R = agree ∷ num n ∷ num t ∷ num T ∷ num sender ∷ num R ∷ []
-
--- ---- the table
+use Rattle.cases.specs.Table.{Wanted, prints, writes, accepted, refused-by, Case, head, rec, good, bad, opening}
 
 abbrev pub case-A : Case
 case-A = record {
@@ -98,7 +50,7 @@ abbrev pub case-D-bad : Case
 case-D-bad = record { sheet = head 1 0 0 1 0 0 1; comes-out = prints (opening 1 0 0 1 6 ∷ bad 1 ∷ []) }
 
 -- a header alone, of value 0 and sender 1, with no station marked
-abbrev pub bare : ℕ → ℕ → ℕ → Outcome → Case
+abbrev pub bare : ℕ → ℕ → ℕ → Wanted → Case
 bare n t T o = record { sheet = head n t T 1 0 0 0; comes-out = o }
 
 abbrev pub cases : List Case
@@ -125,8 +77,3 @@ cases =
     ∷ bare 0 0 0 (refused-by 2)
     ∷ bare 33 0 0 (refused-by 2)
     ∷ []
-
--- every row holds
-abbrev pub All : List Case → Type 0
-All [] = Unit
-All (c ∷ cs) = Comes (c .sheet) (c .comes-out) × All cs

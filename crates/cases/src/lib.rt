@@ -1,1 +1,1 @@
-// Document 01's worked runs, A to H: the table is in specs/, the proof in proofs/.
+// Document 01's worked runs, A to H, and further sheets: the tables are in specs/, the proof in proofs/.

@@ -1,28 +1,39 @@
--- Laws of the text's length: a number has at most three digits, a line at most 26 bytes, and an accepted sheet at most 32 stations. Assumes nothing.
-use Prim.Native.Nat.{ℕ, zero, suc, _+_, _*_, _/_, _%_, _≤_}
+-- Laws of the text's length: an accepted sheet has at most 32 stations, and so its numbers have at most two digits; an outcome byte has one; and the
+-- stations below 10 have a line of 8 bytes. Assumes nothing.
+use Prim.Native.Nat.{ℕ, zero, suc, _+_, _-_, _*_, _/_, _%_, _≤_, _<_}
 use mathlib.Core.Path.{_≡_, refl}
 use mathlib.Core.Bool.{Bool, true, false}
 use mathlib.Core.List.{List, [], _∷_}
 use native.Mathlib.Omega.{arith}
 use lib.Dec.{ltb}
 use lib.ListN.{length, length-append}
+use borrow.Author.Tests.{ltb-true, ltb-false}
 use Rattle.line.specs.Count.{if_then_else_}
+use Rattle.line.specs.Line.{rounds}
 use Rattle.line.specs.Marks.{marked}
 use Rattle.line.specs.Cause.{number}
 use Rattle.line.specs.declared.cause.Verdict.{Verdict}
 use Rattle.line.specs.declared.cause.Verdict.the-variants.{Accepted, Refused}
 use Rattle.line.proofs.HeaderLaws.{both-accepted}
+use Rattle.broadcast.specs.Exchange.{flag-of}
 use Rattle.broadcast.specs.Station.{at}
 use Rattle.broadcast.specs.Bytes.{outcomes}
+use Rattle.broadcast.specs.Theorems.{OutcomeBytes}
+use Rattle.broadcast.proofs.Theorems.{outcome-bytes}
 use Rattle.sheet.specs.declared.Header.{Header}
 use Rattle.sheet.specs.Layout.{header}
 use Rattle.sheet.specs.Chain.{Fate}
 use Rattle.sheet.specs.Judgement.{opening-verdict, chain-verdict, sheet-verdict}
 use Rattle.sheet.specs.Reading.{table-of}
+use Rattle.sheet.specs.Loops.{SoundHeader}
 use Rattle.sheet.proofs.PromiseLaws.{opening-sound}
-use Rattle.listing.specs.Lines.{num, dash, first-line, station-line, station-lines, lines-by, run}
+use Rattle.listing.specs.Lines.{first-line, station-line, station-lines, lines-by, run}
 use Rattle.listing.specs.Text.{digit, decimal, line-text, text}
 use Rattle.listing.specs.Promise.{listing}
+use Rattle.listing.specs.Theorems.{longest-listing}
+use Rattle.listing.proofs.TextLaws.{decimal-one, decimal-two, bad-shown, good-shown}
+
+-- ---- numbers
 
 decimal-short : (x : ℕ) → length (decimal x) ≤ 3
 unfolding decimal
@@ -34,37 +45,87 @@ decimal-short x = go (ltb x 10) (ltb x 100)
     go false true = omega arith
     go false false = omega arith
 
-first-short : (h : Header) → length (line-text (first-line h)) ≤ 26
-first-short h =
-    simp length-append
-    (omega (arith, decimal-short (h .n), decimal-short (h .t), decimal-short (h .upper), decimal-short (h .sender), decimal-short (3 * h .t + 6)))
+one-digit : (x : ℕ) → x < 10 → length (decimal x) ≡ 1
+one-digit x h = rw (← decimal-one x h)
 
-station-short : (h : Header) (bytes : List ℕ) (i : ℕ) → length (line-text (station-line h bytes i)) ≤ 16
-unfolding station-line
-station-short h bytes i = go (marked (h .marks) i) (i + 1) (at bytes (3 * i)) (at bytes (3 * i + 1)) (at bytes (3 * i + 2))
+two-digits : (x : ℕ) → x < 100 → length (decimal x) ≤ 2
+two-digits x h = go (ltb x 10) refl
   where
-    go : (bad : Bool) (k v g f : ℕ)
-        → length (line-text (if bad then num k ∷ dash ∷ dash ∷ dash ∷ [] else num k ∷ num v ∷ num g ∷ num f ∷ [])) ≤ 16
-    go true k v g f = simp length-append (omega (arith, decimal-short k))
-    go false k v g f = simp length-append (omega (arith, decimal-short k, decimal-short v, decimal-short g, decimal-short f))
+    go : (b : Bool) → ltb x 10 ≡ b → length (decimal x) ≤ 2
+    go true e = omega (arith, one-digit x (ltb-true x 10 e))
+    go false e = rw (← decimal-two x (ltb-false x 10 e) h) (omega arith)
 
-stations-short : (h : Header) (bytes : List ℕ) (i m : ℕ) → length (text (station-lines h bytes i m)) ≤ 16 * m
-unfolding station-lines
-stations-short h bytes i zero = omega arith
-stations-short h bytes i (suc m) = simp length-append (omega (arith, station-short h bytes i, stations-short h bytes (suc i) m))
+-- a station's number, counted from 0: one digit up to station 9
+station-digits : (i : ℕ) → i < 99 → length (decimal (i + 1)) + (i - 9) ≤ 1 + (suc i - 9)
+station-digits i h = go (ltb i 9) refl
+  where
+    go : (b : Bool) → ltb i 9 ≡ b → length (decimal (i + 1)) + (i - 9) ≤ 1 + (suc i - 9)
+    go true e = let l = ltb-true i 9 e in omega (arith, one-digit (i + 1) (omega arith))
+    go false e = let l = ltb-false i 9 e in omega (arith, two-digits (i + 1) (omega arith))
+
+flag-bit : (g : ℕ) → flag-of g ≤ 1
+unfolding flag-of
+flag-bit g = go (ltb g 2)
+  where
+    go : (b : Bool) → (if b then 1 else 0) ≤ 1
+    go true = omega arith
+    go false = omega arith
+
+-- ---- lines
+
+first-short : (h : Header) → SoundHeader h → length (line-text (first-line h)) ≤ 21
+first-short h sound =
+    let fits = sound .fits in
+    let n = two-digits (h .n) (omega (arith, sound .most)) in
+    let t = two-digits (h .t) (omega (arith, sound .most, fits .order, fits .room)) in
+    let upper = two-digits (h .upper) (omega (arith, sound .most, fits .room)) in
+    let sender = two-digits (h .sender) (omega (arith, sound .most, sound .sender-high)) in
+    let last = two-digits (rounds (h .t)) (omega (arith, sound .most, fits .order, fits .room)) in
+    simp length-append (omega arith)
+
+-- the stations of a line, with their outcome bytes
+module _ (h : Header) (bytes : List ℕ) (most : h .n ≤ 32) (shown : OutcomeBytes (h .n) (marked (h .marks)) bytes) where
+  station-short : (i : ℕ) → i < h .n → length (line-text (station-line h bytes i)) + (i - 9) ≤ 8 + (suc i - 9)
+  unfolding at
+  station-short i l = go (marked (h .marks) i) refl
+    where
+      go : (bad : Bool) → marked (h .marks) i ≡ bad → length (line-text (station-line h bytes i)) + (i - 9) ≤ 8 + (suc i - 9)
+      go true e = rw (bad-shown h bytes i e) (simp length-append (omega (arith, station-digits i (omega arith))))
+      go false e =
+          let (v, g, f) = shown .good i (l, e) in
+          let value = one-digit (at bytes (3 * i)) (omega arith) in
+          let grade = one-digit (at bytes (3 * i + 1)) (omega arith) in
+          let flag = one-digit (at bytes (3 * i + 2)) (omega (arith, flag-bit (at bytes (3 * i + 1)))) in
+          rw (good-shown h bytes i e)
+          (simp length-append (omega (arith, station-digits i (omega arith), value, grade, flag)))
+
+  -- the lines of stations that have one digit are a byte shorter
+  stations-short : (m i : ℕ) → i + m ≤ h .n → length (text (station-lines h bytes i m)) + (i - 9) ≤ 8 * m + (i + m - 9)
+  unfolding station-lines
+  stations-short zero i l = omega arith
+  stations-short (suc m) i l =
+      simp length-append (omega (arith, station-short i (omega arith), stations-short m (suc i) (omega arith)))
+
+-- ---- a listing
 
 module _ (s : List ℕ) (lent : ℕ) (fate : Fate s) where
-  few : sheet-verdict s lent fate ≡ Accepted → header s .n ≤ 32
+  sound-if : sheet-verdict s lent fate ≡ Accepted → SoundHeader (header s)
   unfolding sheet-verdict
-  few e = opening-sound s lent (both-accepted (opening-verdict s lent) (chain-verdict s fate) e .0) .most
+  sound-if e = opening-sound s lent (both-accepted (opening-verdict s lent) (chain-verdict s fate) e .0)
 
-  pub listing-short : length (listing s lent fate) ≤ 538
+  pub listing-short : length (listing s lent fate) ≤ longest-listing
   unfolding listing
-  listing-short = go (sheet-verdict s lent fate) refl (outcomes (run (header s) (table-of s fate)))
+  listing-short = go (sheet-verdict s lent fate) refl
     where
-      go : (v : Verdict) → sheet-verdict s lent fate ≡ v → (bytes : List ℕ) → length (text (lines-by v (header s) bytes)) ≤ 538
-      go Accepted e bytes =
-          let first = line-text (first-line (header s)) in
-          let rest = text (station-lines (header s) bytes 0 (header s .n)) in
-          omega (arith, length-append first rest, first-short (header s), stations-short (header s) bytes 0 (header s .n), few e)
-      go (Refused c) e bytes = simp length-append (omega (arith, decimal-short (number c)))
+      bytes : List ℕ
+      bytes = outcomes (run (header s) (table-of s fate))
+
+      go : (v : Verdict) → sheet-verdict s lent fate ≡ v → length (text (lines-by v (header s) bytes)) ≤ longest-listing
+      go Accepted e =
+          let h = header s in
+          let sound = sound-if e in
+          let first = line-text (first-line h) in
+          let rest = text (station-lines h bytes 0 (h .n)) in
+          let shown = outcome-bytes (run h (table-of s fate)) in
+          omega (arith, length-append first rest, first-short h sound, stations-short h bytes (sound .most) shown (h .n) 0 (omega arith), sound .most)
+      go (Refused c) e = simp length-append (omega (arith, decimal-short (number c)))

@@ -1,8 +1,11 @@
--- Laws of a listing with as much table and log as any line wants: the verdict is the one that Lines.antt defines. Assumes nothing.
+-- Laws of a listing with as much table and log as any line wants: the verdict is the one that Lines.antt defines; and with as much text as any
+-- listing wants, nothing is cut. Assumes nothing.
 use Prim.Native.Nat.{ℕ, _≤_}
-use mathlib.Core.Path.{_≡_, refl}
-use mathlib.Core.List.{List}
+use mathlib.Core.Path.{_≡_, refl, sym, _∙_}
+use mathlib.Core.List.{List, _++_}
 use native.Mathlib.Nat.{min-eq-left, le-trans}
+use lib.ListN.{length, drop}
+use lib.Seq.{take-append-seam}
 use Rattle.line.specs.Line.{largest-table}
 use Rattle.line.specs.Cause.{_or-else_}
 use Rattle.line.specs.Header.{header-verdict}
@@ -17,7 +20,10 @@ use Rattle.sheet.specs.Judgement.{sheet-form, line-and-length, opening-verdict,
 use Rattle.sheet.specs.Loops.{SoundHeader}
 use Rattle.listing.specs.Lines.{verdict, lines}
 use Rattle.listing.specs.Text.{text}
-use Rattle.listing.specs.Promise.{wanted, front, listing}
+use Rattle.listing.specs.Promise.{wanted, front, listing, Lists, Listed}
+use Rattle.listing.specs.Theorems.{Listing-fits}
+use Rattle.listing.proofs.TextLaws.{laid-front, laid-length}
+use Rattle.listing.proofs.LengthLaws.{listing-short}
 
 -- what is refused stays refused
 refused-stays : (a : Verdict) (c : Cause) (b : Verdict) → (a or-else Refused c) or-else b ≡ a or-else Refused c
@@ -53,3 +59,14 @@ module _ (s : List ℕ) (fate : Fate s) where
     pub listing-whole : listing s (front s table log) fate ≡ text (lines s fate)
     unfolding listing lines
     listing-whole = rw (verdict-same headed refl)
+
+pub listing-fits : Listing-fits
+listing-fits s table₀ table₁ log₀ log₁ text₀ text₁ answer r ht hl hx =
+    let bytes = listing s (front s (length table₀) (length log₀)) (r .fate) in
+    let room : length bytes ≤ length text₀ = le-trans (listing-short s (front s (length table₀) (length log₀)) (r .fate)) hx in
+    let laid-is : text₁ ≡ bytes ++ drop (length bytes) text₀ = r .text-is ∙ sym (laid-front bytes text₀ (length bytes) refl room) in
+    record {
+      fate = r .fate;
+      inside = rw (r .answer-is, r .text-is, laid-length) room;
+      whole = rw (r .answer-is, laid-is) (take-append-seam bytes _ ∙ listing-whole s (r .fate) _ _ ht hl);
+    }

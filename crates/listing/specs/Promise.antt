@@ -1,8 +1,8 @@
 -- What `list` promises, for every sheet and every buffer.
-use Prim.Native.Nat.{ℕ, min}
+use Prim.Native.Nat.{ℕ, _≤_, min}
 use mathlib.Core.Path.{_≡_}
 use mathlib.Core.List.{List}
-use lib.ListN.{length}
+use lib.ListN.{length, take}
 use Rattle.line.specs.Line.{table-length}
 use Rattle.line.specs.Cause.{written}
 use Rattle.broadcast.specs.Bytes.{log, outcomes}
@@ -10,7 +10,7 @@ use Rattle.sheet.specs.Layout.{header}
 use Rattle.sheet.specs.Chain.{Fate}
 use Rattle.sheet.specs.Judgement.{sheet-verdict}
 use Rattle.sheet.specs.Reading.{table-of}
-use Rattle.listing.specs.Lines.{lines-by, run}
+use Rattle.listing.specs.Lines.{lines-by, run, lines}
 use Rattle.listing.specs.Text.{text, laid}
 
 -- the table length of the sheet's line; where the sheet has no whole header, that of the bytes there are, and zeros
@@ -38,3 +38,10 @@ pub record Lists (s table₀ table₁ log₀ log₁ text₀ text₁ : List ℕ) 
   -- every byte of the log at exit: the run's from its start on and the rest as it was, or all as it was
   pub log-is : log₁
       ≡ written (sheet-verdict s (front s (length table₀) (length log₀)) fate) (laid log₀ 0 (log (run (header s) (table-of s fate)))) log₀
+
+-- What comes of it with buffers long enough for every sheet (`Listing-fits` of Theorems.antt): so many bytes at the text's start are the whole text of
+-- the sheet's lines.
+pub record Listed (s text₁ : List ℕ) (answer : ℕ) : Type 0 where
+  pub fate : Fate s
+  pub inside : answer ≤ length text₁
+  pub whole : take answer text₁ ≡ text (lines s fate)

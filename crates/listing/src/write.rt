@@ -1,5 +1,5 @@
 // The text of a listing, put into a buffer byte by byte as far as the buffer goes. Each function puts its bytes from a place on and answers the place
-// after them. Places are kept below 4,096, where no sum wraps; no listing is longer than 538 bytes.
+// after them. Places are kept below 4,096, where no sum wraps; no listing is longer than 300 bytes (`Listing-short`).
 ghost use mathlib.Core.Path.{_≡_};
 ghost use mathlib.Core.List.{[], _∷_};
 ghost use Prim.Native.Nat.{_+_, _≤_, _<_};

@@ -1,0 +1,132 @@
+-- Further sheets, beside document 01's cases A to H: a second table. A comment quotes the sentence that the row shows.
+use Prim.Native.Nat.{ℕ}
+use mathlib.Core.List.{List, [], _∷_, _++_}
+use Rattle.listing.specs.Theorems.{longest-listing}
+use Rattle.cases.specs.Table.{Wanted, prints, writes, is-long, accepted, refused-by, Case, head, rec, good, bad, opening}
+
+-- ---- runs
+
+-- "a byte other than 0 or 1 is read as 0": the bad sender, handed 1, is silent, and all take 0
+abbrev pub silent-sender : Case
+silent-sender = record {
+  sheet = head 4 1 1 4 1 0 8;
+  comes-out = prints (opening 4 1 1 4 9 ∷ good 1 0 2 0 ∷ good 2 0 2 0 ∷ good 3 0 2 0 ∷ bad 4 ∷ []);
+}
+
+-- "(a byte other than 0 or 1 is read as 0)", of the king's ballot: stations 2 and 3 leave the first exchange with y 1 and grade 0, the bad
+-- king is silent, and both take 0. Read as 1, or not obeyed, both would end with 1.
+abbrev pub silent-king : Case
+silent-king = record {
+  sheet =
+      head 3 0 1 1 0 1 1
+      ++ rec 1 1 2 0 2 ++ rec 1 1 3 1 3
+      ++ rec 2 1 2 1 4 ++ rec 2 1 3 0 0;
+  comes-out = prints (opening 3 0 1 1 6 ∷ bad 1 ∷ good 2 0 1 1 ∷ good 3 0 1 1 ∷ []);
+}
+
+-- "y = 0 if a exceeds b, otherwise y = 1.": in round 6 station 1 has its own zero and a one, as many of each, and ends with 1
+abbrev pub equal-counts : Case
+equal-counts = record {
+  sheet = head 2 0 0 1 0 1 2 ++ rec 6 2 1 1 0;
+  comes-out = prints (opening 2 0 0 1 6 ∷ good 1 1 0 1 ∷ bad 2 ∷ []);
+}
+
+-- ---- marks in all four bytes: "8–11 the marks, bit i−1 for station i"
+
+-- all stations but the tenth
+abbrev pub all-but-ten : Case
+all-but-ten = record {
+  sheet = 25 ∷ 0 ∷ 12 ∷ 10 ∷ 1 ∷ 0 ∷ 0 ∷ 0 ∷ 255 ∷ 253 ∷ 255 ∷ 1 ∷ [];
+  comes-out =
+      prints
+      (opening 25 0 12 10 6
+      ∷ bad 1 ∷ bad 2 ∷ bad 3 ∷ bad 4 ∷ bad 5 ∷ bad 6 ∷ bad 7 ∷ bad 8
+      ∷ bad 9 ∷ good 10 0 0 1 ∷ bad 11 ∷ bad 12 ∷ bad 13 ∷ bad 14 ∷ bad 15 ∷ bad 16
+      ∷ bad 17 ∷ bad 18 ∷ bad 19 ∷ bad 20 ∷ bad 21 ∷ bad 22 ∷ bad 23 ∷ bad 24
+      ∷ bad 25 ∷ []);
+}
+
+-- stations 1, 10, 19 and 28: a header whose first record is record 1
+abbrev pub four-marked : List ℕ
+four-marked = 32 ∷ 0 ∷ 0 ∷ 1 ∷ 0 ∷ 0 ∷ 1 ∷ 0 ∷ 1 ∷ 2 ∷ 4 ∷ 8 ∷ []
+
+-- ---- text
+
+-- "number, value, grade, flag", byte by byte, with numbers of two digits: station 10, the sender, and 11 are good
+abbrev pub two-digits : Case
+two-digits = record {
+  sheet = 11 ∷ 2 ∷ 4 ∷ 10 ∷ 1 ∷ 0 ∷ 0 ∷ 0 ∷ 255 ∷ 1 ∷ 0 ∷ 0 ∷ [];
+  comes-out =
+      writes
+      ((97 ∷ 103 ∷ 114 ∷ 101 ∷ 101 ∷ 32 ∷ 49 ∷ 49 ∷ 32 ∷ 50 ∷ 32 ∷ 52 ∷ 32 ∷ 49 ∷ 48 ∷ 32 ∷ 49 ∷ 50 ∷ 10 ∷ [])
+      ++ (49 ∷ 32 ∷ 45 ∷ 32 ∷ 45 ∷ 32 ∷ 45 ∷ 10 ∷ [])
+      ++ (50 ∷ 32 ∷ 45 ∷ 32 ∷ 45 ∷ 32 ∷ 45 ∷ 10 ∷ [])
+      ++ (51 ∷ 32 ∷ 45 ∷ 32 ∷ 45 ∷ 32 ∷ 45 ∷ 10 ∷ [])
+      ++ (52 ∷ 32 ∷ 45 ∷ 32 ∷ 45 ∷ 32 ∷ 45 ∷ 10 ∷ [])
+      ++ (53 ∷ 32 ∷ 45 ∷ 32 ∷ 45 ∷ 32 ∷ 45 ∷ 10 ∷ [])
+      ++ (54 ∷ 32 ∷ 45 ∷ 32 ∷ 45 ∷ 32 ∷ 45 ∷ 10 ∷ [])
+      ++ (55 ∷ 32 ∷ 45 ∷ 32 ∷ 45 ∷ 32 ∷ 45 ∷ 10 ∷ [])
+      ++ (56 ∷ 32 ∷ 45 ∷ 32 ∷ 45 ∷ 32 ∷ 45 ∷ 10 ∷ [])
+      ++ (57 ∷ 32 ∷ 45 ∷ 32 ∷ 45 ∷ 32 ∷ 45 ∷ 10 ∷ [])
+      ++ (49 ∷ 48 ∷ 32 ∷ 48 ∷ 32 ∷ 48 ∷ 32 ∷ 49 ∷ 10 ∷ [])
+      ++ (49 ∷ 49 ∷ 32 ∷ 48 ∷ 32 ∷ 48 ∷ 32 ∷ 49 ∷ 10 ∷ []));
+}
+
+-- every number that can have two digits has two: the longest listing (`Listing-short` of crate listing). All stations are marked.
+abbrev pub longest : Case
+longest = record {
+  sheet = 32 ∷ 10 ∷ 10 ∷ 32 ∷ 1 ∷ 0 ∷ 0 ∷ 0 ∷ 255 ∷ 255 ∷ 255 ∷ 255 ∷ [];
+  comes-out = is-long longest-listing;
+}
+
+-- "A refusal prints the one line `refused` and the number.": refused 12, with its newline
+abbrev pub refused-12 : List ℕ
+refused-12 = 114 ∷ 101 ∷ 102 ∷ 117 ∷ 115 ∷ 101 ∷ 100 ∷ 32 ∷ 49 ∷ 50 ∷ 10 ∷ []
+
+-- ---- refusals
+
+-- case A's header with this sender, value and marks, and no record
+abbrev pub headed : ℕ → ℕ → ℕ → Wanted → Case
+headed sender value marks o = record { sheet = head 4 1 1 sender value 0 marks; comes-out = o }
+
+-- case A's header with these records, of which the chain begins with the one of this index
+abbrev pub chained : ℕ → List ℕ → Wanted → Case
+chained first records o = record { sheet = head 4 1 1 1 1 first 8 ++ records; comes-out = o }
+
+abbrev pub further : List Case
+further =
+    silent-sender
+    ∷ silent-king
+    ∷ equal-counts
+    ∷ all-but-ten
+    -- a ballot of each of the four stations, and one of station 27, which is not marked
+    ∷ record { sheet = four-marked ++ rec 1 28 1 1 2 ++ rec 1 19 1 1 3 ++ rec 1 10 1 1 4 ++ rec 1 1 1 1 0; comes-out = accepted }
+    ∷ record { sheet = four-marked ++ rec 1 27 1 1 0; comes-out = refused-by 12 }
+    ∷ two-digits
+    ∷ longest
+    -- 4: "sender or own station outside 1 to n"
+    ∷ headed 0 1 8 (refused-by 4)
+    ∷ headed 5 1 8 (refused-by 4)
+    -- 5: "the value handed in (also with a marked sender [..]) [..] not 0 or 1"
+    ∷ headed 4 2 8 (refused-by 5)
+    -- 6: "a mark beyond station n"
+    ∷ headed 1 1 16 (refused-by 6)
+    -- "The lowest number wins up to 8.": 5 and 6 both hold
+    ∷ headed 1 2 16 (refused-by 5)
+    -- 11: "a record's round outside 1 to R, a station outside 1 to n, or its last two bytes not zero": round 0 and 10, from 0 and 5, to 0 and 5, each last byte
+    ∷ chained 1 (rec 0 4 1 1 0) (refused-by 11)
+    ∷ chained 1 (rec 10 4 1 1 0) (refused-by 11)
+    ∷ chained 1 (rec 1 0 1 1 0) (refused-by 11)
+    ∷ chained 1 (rec 1 5 1 1 0) (refused-by 11)
+    ∷ chained 1 (rec 1 4 0 1 0) (refused-by 11)
+    ∷ chained 1 (rec 1 4 5 1 0) (refused-by 11)
+    ∷ chained 1 (1 ∷ 4 ∷ 1 ∷ 1 ∷ 0 ∷ 0 ∷ 1 ∷ 0 ∷ []) (refused-by 11)
+    ∷ chained 1 (1 ∷ 4 ∷ 1 ∷ 1 ∷ 0 ∷ 0 ∷ 0 ∷ 1 ∷ []) (refused-by 11)
+    -- 12: "a record's from is not marked"
+    ∷ chained 1 (rec 1 1 4 1 0) (writes refused-12)
+    -- 13: "an earlier chained record has the same round, from and to", also where both ballots are silence
+    ∷ chained 1 (rec 1 4 1 1 2 ++ rec 1 4 1 0 0) (refused-by 13)
+    ∷ chained 1 (rec 1 4 1 255 2 ++ rec 1 4 1 255 0) (refused-by 13)
+    -- "Then the records are taken in chain order": record 2, whose from is not marked, comes before record 1, whose round is 0
+    ∷ chained 2 (rec 0 4 1 1 0 ++ rec 1 1 4 1 1) (refused-by 12)
+    ∷ []

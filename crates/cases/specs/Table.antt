@@ -1,0 +1,59 @@
+-- What a row of a table is: a sheet, and what must come out of it. The parts that rows are written with.
+use Prim.Native.Nat.{ℕ}
+use mathlib.Core.Path.{_≡_}
+use mathlib.Core.List.{List, [], _∷_}
+use lib.ListN.{length}
+use Rattle.line.specs.Cause.{code}
+use Rattle.sheet.specs.Chain.{Fate}
+use Rattle.listing.specs.Lines.{Field, agree, num, dash, verdict, lines}
+use Rattle.listing.specs.Text.{text}
+
+-- what is wanted of a sheet: its listing's lines, or its text byte by byte, or the text's length, or that it is accepted, or the number that it is
+-- refused by
+pub data Wanted : Type 0 where
+  prints : List (List Field) → Wanted
+  writes : List ℕ → Wanted
+  is-long : ℕ → Wanted
+  accepted : Wanted
+  refused-by : ℕ → Wanted
+
+pub record Case : Type 0 where
+  pub sheet : List ℕ
+  pub comes-out : Wanted
+
+-- it comes out, by the definitions that the calls promise. Lines and text show by their first word whether the sheet is accepted.
+abbrev pub Comes : (s : List ℕ) → Wanted → Type 0
+Comes s (prints l) = (fate : Fate s) × (lines s fate ≡ l)
+Comes s (writes b) = (fate : Fate s) × (text (lines s fate) ≡ b)
+Comes s (is-long k) = (fate : Fate s) × (length (text (lines s fate)) ≡ k)
+Comes s accepted = (fate : Fate s) × (code (verdict s fate) ≡ 0)
+Comes s (refused-by k) = (fate : Fate s) × (code (verdict s fate) ≡ k)
+
+-- every row holds
+abbrev pub All : List Case → Type 0
+All [] = Unit
+All (c ∷ cs) = Comes (c .sheet) (c .comes-out) × All cs
+
+-- ---- sheets
+
+-- a header with fewer than nine stations marked: n, t, T, sender, value, first index, marks
+abbrev pub head : ℕ → ℕ → ℕ → ℕ → ℕ → ℕ → ℕ → List ℕ
+head n t T sender value first marks =
+    n ∷ t ∷ T ∷ sender ∷ value ∷ 0 ∷ first ∷ 0 ∷ marks ∷ 0 ∷ 0 ∷ 0 ∷ []
+
+-- a record: round, from, to, ballot, next index
+abbrev pub rec : ℕ → ℕ → ℕ → ℕ → ℕ → List ℕ
+rec round from to ballot next = round ∷ from ∷ to ∷ ballot ∷ next ∷ 0 ∷ 0 ∷ 0 ∷ []
+
+-- ---- lines
+
+-- a good station's line: number, value, grade, flag
+abbrev pub good : ℕ → ℕ → ℕ → ℕ → List Field
+good i value grade flag = num i ∷ num value ∷ num grade ∷ num flag ∷ []
+
+abbrev pub bad : ℕ → List Field
+bad i = num i ∷ dash ∷ dash ∷ dash ∷ []
+
+-- the first line: n, t, T, sender, R
+abbrev pub opening : ℕ → ℕ → ℕ → ℕ → ℕ → List Field
+opening n t T sender R = agree ∷ num n ∷ num t ∷ num T ∷ num sender ∷ num R ∷ []
