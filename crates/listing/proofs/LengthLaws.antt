@@ -23,7 +23,7 @@ use Rattle.broadcast.proofs.Theorems.{outcome-bytes}
 use Rattle.sheet.specs.declared.Header.{Header}
 use Rattle.sheet.specs.Layout.{header}
 use Rattle.sheet.specs.Chain.{Fate}
-use Rattle.sheet.specs.Judgement.{opening-verdict, chain-verdict, sheet-verdict}
+use Rattle.sheet.specs.Judgement.{verdict-to-8, chain-verdict, sheet-verdict}
 use Rattle.sheet.specs.Reading.{table-of}
 use Rattle.sheet.specs.Loops.{SoundHeader}
 use Rattle.sheet.proofs.PromiseLaws.{opening-sound}
@@ -111,7 +111,7 @@ module _ (h : Header) (bytes : List ℕ) (most : h .n ≤ 32) (shown : OutcomeBy
 module _ (s : List ℕ) (lent : ℕ) (fate : Fate s) where
   sound-if : sheet-verdict s lent fate ≡ Accepted → SoundHeader (header s)
   unfolding sheet-verdict
-  sound-if e = opening-sound s lent (both-accepted (opening-verdict s lent) (chain-verdict s fate) e .0)
+  sound-if e = opening-sound s lent (both-accepted (verdict-to-8 s lent) (chain-verdict s fate) e .0)
 
   pub listing-short : length (listing s lent fate) ≤ longest-listing
   unfolding listing

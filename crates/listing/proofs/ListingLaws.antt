@@ -18,7 +18,7 @@ use Rattle.sheet.specs.declared.Header.{Header}
 use Rattle.sheet.specs.declared.Reading.{Reading}
 use Rattle.sheet.specs.declared.Reading.the-variants as reading
 use Rattle.sheet.specs.Layout.{header}
-use Rattle.sheet.specs.Judgement.{opening-verdict, chain-verdict, sheet-verdict}
+use Rattle.sheet.specs.Judgement.{verdict-to-8, chain-verdict, sheet-verdict}
 use Rattle.sheet.specs.Reading.{table-of, reading-by, Reads}
 use Rattle.sheet.proofs.PromiseLaws.{opening-sound, opening-length}
 use Rattle.listing.specs.Lines.{refused, num, lines-by, run}
@@ -39,7 +39,7 @@ module _ (h : Header) (table log₀ log₁ : List ℕ) {outcomes₀ outcomes₁ 
   left : v ≡ exact-length (table-length (h .n) (h .t)) (length log₀)
   unfolding rehearsal-verdict
   left =
-      r .answer-is
+      r .judged .answer-is
       ∙ rw (header-accepts (h .n) (h .t) (h .upper) (h .sender) (h .value) (h .marks) (readable .sound), length-accepts _ _ (readable .table-whole), length-accepts _ _ size)
       (or-accepted (exact-length (table-length (h .n) (h .t)) (length log₀)))
 
@@ -69,9 +69,9 @@ module _ (s table₀ table₁ : List ℕ) {answer : Reading} (r : Reads s table�
     both : (sheet-verdict s (length table₀) (r .fate) ≡ verdict.Accepted) × (h ≡ header s)
     both = read-accepted (sheet-verdict s (length table₀) (r .fate)) h (header s) (sym e ∙ r .answer-is)
 
-    opened : opening-verdict s (length table₀) ≡ verdict.Accepted
+    opened : verdict-to-8 s (length table₀) ≡ verdict.Accepted
     unfolding sheet-verdict
-    opened = both-accepted (opening-verdict s (length table₀)) (chain-verdict s (r .fate)) (both .0) .0
+    opened = both-accepted (verdict-to-8 s (length table₀)) (chain-verdict s (r .fate)) (both .0) .0
 
     -- an accepted sheet's header is sound, and its table has the line's length
     pub accepted-readable : length table₁ ≡ length table₀ → Readable h table₁

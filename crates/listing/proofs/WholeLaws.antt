@@ -16,7 +16,7 @@ use Rattle.line.proofs.LineLaws.{table-bound}
 use Rattle.line.proofs.HeaderLaws.{header-sound}
 use Rattle.sheet.specs.Layout.{header}
 use Rattle.sheet.specs.Chain.{Fate}
-use Rattle.sheet.specs.Judgement.{sheet-form, line-and-length, opening-verdict, chain-verdict, sheet-verdict}
+use Rattle.sheet.specs.Judgement.{sheet-form, line-and-length, verdict-to-8, chain-verdict, sheet-verdict}
 use Rattle.sheet.specs.Loops.{SoundHeader}
 use Rattle.listing.specs.Lines.{verdict, lines}
 use Rattle.listing.specs.Text.{text}
@@ -44,7 +44,7 @@ module _ (s : List ℕ) (fate : Fate s) where
 
   -- any other is refused by 1 to 6, whatever the table's length
   refused-early : (c : Cause) → headed ≡ Refused c → (l : ℕ) → sheet-verdict s l fate ≡ sheet-form s or-else Refused c
-  unfolding sheet-verdict opening-verdict line-and-length headed
+  unfolding sheet-verdict verdict-to-8 line-and-length headed
   refused-early c e l = rw e (refused-stays (sheet-form s) c (chain-verdict s fate))
 
   module _ (table log : ℕ) (ht : largest-table ≤ table) (hl : largest-table ≤ log) where

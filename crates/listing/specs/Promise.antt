@@ -17,13 +17,13 @@ use Rattle.listing.specs.Text.{text, laid}
 abbrev pub wanted : List ℕ → ℕ
 wanted s = table-length (header s .n) (header s .t)
 
--- how much of a table and a log of these lengths is lent on: fronts of that length; if one of the two is shorter, fronts of its length
+-- how much of a table and a log is lent on, by their lengths: fronts of that length; if one of the two is shorter, fronts of its length
 unfoldable pub front : List ℕ → ℕ → ℕ → ℕ
-front s table log = min (min (wanted s) table) log
+front s table-size log-size = min (min (wanted s) table-size) log-size
 
--- the text of the listing, where table and log of this length are lent
+-- the text of the listing, where so much of table and log is lent
 unfoldable pub listing : (s : List ℕ) → ℕ → Fate s → List ℕ
-listing s lent fate = text (lines-by (sheet-verdict s lent fate) (header s) (outcomes (run (header s) (table-of s fate))))
+listing s lent-size fate = text (lines-by (sheet-verdict s lent-size fate) (header s) (outcomes (run (header s) (table-of s fate))))
 
 -- The promise. `table₀`, `log₀` and `text₀` are the lent buffers at entry, `table₁`, `log₁` and `text₁` at exit.
 pub record Lists (s table₀ table₁ log₀ log₁ text₀ text₁ : List ℕ) (answer : ℕ) : Type 0 where

@@ -39,8 +39,8 @@ Decimal-reads-back = (x : ℕ) → x < 1000 → Reads-back x (decimal x)
 -- "The largest has 36,864 bytes.": with so many of table and of log the text is that of the lines that the sheet has by Lines.antt
 abbrev pub Listing-whole : Type 0
 Listing-whole =
-    (s : List ℕ) (table log : ℕ) (fate : Fate s) → largest-table ≤ table → largest-table ≤ log
-    → listing s (front s table log) fate ≡ text (lines s fate)
+    (s : List ℕ) (table-size log-size : ℕ) (fate : Fate s) → largest-table ≤ table-size → largest-table ≤ log-size
+    → listing s (front s table-size log-size) fate ≡ text (lines s fate)
 
 -- no listing is longer: the first line has at most 21 bytes, the lines of stations 1 to 9 have 8 and those of 10 to 32 have 9. One is as long
 -- (`longest` of crate cases).
@@ -48,7 +48,7 @@ abbrev pub longest-listing : ℕ
 longest-listing = 300
 
 abbrev pub Listing-short : Type 0
-Listing-short = (s : List ℕ) (lent : ℕ) (fate : Fate s) → length (listing s lent fate) ≤ longest-listing
+Listing-short = (s : List ℕ) (lent-size : ℕ) (fate : Fate s) → length (listing s lent-size fate) ≤ longest-listing
 
 -- and so with as much of table, log and text nothing is cut
 abbrev pub Listing-fits : Type 0
