@@ -31,6 +31,7 @@ EDITED = {
     "done_a_row_early": edited(rows_to_done=lambda rounds: rounds - 1),
     "station_king_tells_z": edited(station_kings_ballot=lambda y, z: z),
     "log_from_and_to_exchanged": edited(offset=lambda n, r, i, j: ((r - 1) * n + j) * n + i),
+    "rows_transposed": edited(row_place=lambda n, r, i, j: ((r - 1) * n + j) * n + i),
     "all_speak_in_round_1": edited(speaks_first=lambda i, sender: True),
     "alone_flag_from_y": edited(flag_alone=lambda y, g: 1 if y < 2 else 0),
     "bad_outcome_shown": edited(bad_outcome=(0, 0, 0)),
@@ -94,7 +95,7 @@ def broken_station(rules, run, said, outcomes):
             at = Rules.offset(run.n, r, j, 0)
             if any(station.ballot() != b for b in log[at:at + run.n]):
                 return "Station-follows-run, ballots"
-            station.take([log[Rules.offset(run.n, r, i, j)] for i in range(run.n)])
+            station.take([log[rules.row_place(run.n, r, i, j)] for i in range(run.n)])
         if station.result() != outcomes[j]:
             return "Station-follows-run, done-after"
     for i in run.good:

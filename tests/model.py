@@ -20,6 +20,7 @@ class Rules:
     rows_to_done = staticmethod(lambda rounds: rounds)
     station_kings_ballot = staticmethod(lambda y, z: y)
     offset = staticmethod(lambda n, r, i, j: ((r - 1) * n + i) * n + j)
+    row_place = staticmethod(lambda n, r, i, j: ((r - 1) * n + i) * n + j)
     bad_outcome = (255, 255, 255)
     speaks_first = staticmethod(lambda i, sender: i == sender)
 
