@@ -51,7 +51,7 @@ limited() {
     shift 2
     timeout -k "$grace" "$limit" "$@" >"$out" 2>&1 &
     group=$!
-    trap 'end_group "$group"; exit 143' INT TERM HUP
+    trap 'end_group "$group"; rm -f "$out"; exit 143' INT TERM HUP
     tail -n +1 -s 0.1 -f --pid="$group" "$out" &
     shown=$!
     # without the shell's own word on a process that was killed
