@@ -303,7 +303,7 @@ def own_checks(library, calls, listings):
     for vector in listings[:3]:
         wrongs = [planted(vector, ("listing",)), {**vector, "listing": vector["listing"] + "\n"}, {**vector, "listing": ""}]
         yield "a wrong listing is told", told(wrongs, lambda one: listing_fault(PROGRAM, one)) == 3
-    yield "another program is told", listing_fault("/bin/false", listings[0]) is not None
+    yield "another program is told", listing_fault("false", listings[0]) is not None
 
 
 # ---- all together
