@@ -4,7 +4,7 @@
 
 use std::hint::black_box;
 
-use crate::ffi;
+use crate::ffi::{self, Handed, ReadOnly};
 use crate::line::{Header, Line, Marks};
 use crate::lot::Lot;
 use crate::rehearsal::rehearse;
@@ -38,13 +38,17 @@ fn line(name: &str, [verified, peer, floor]: [Nanoseconds; 3]) -> String {
 fn rehearsal(bad: u32) -> [Nanoseconds; 3] {
     let (header, line) = largest(bad);
     let table = Lot(1).table(&line);
+    let mut handed = table.clone();
     let mut logs = [0, 1, 2].map(|_| vec![0; line.table_len()]);
     let mut outcomes = [0, 1].map(|_| vec![0; line.outcomes_len()]);
     let ([log, own_log, copied], [out, own_out]) = (&mut logs, &mut outcomes);
     let timed = time_in_turn(
         SAMPLES,
         [
-            sample(|| ffi::rehearse(black_box(&header), black_box(&table), log, out)),
+            sample(|| {
+                let table = ReadOnly(Handed::all(black_box(&mut handed)));
+                ffi::rehearse(black_box(&header), table, Handed::all(log), Handed::all(out))
+            }),
             sample(|| rehearse(black_box(&header), black_box(&table), own_log, own_out)),
             copy(&table, copied),
         ],
@@ -66,12 +70,13 @@ fn sheet_of(count: usize) -> (Vec<u8>, Line) {
 /// Reading a sheet with this many records. The floor is copying the table.
 fn reader(count: usize) -> [Nanoseconds; 3] {
     let (sheet, line) = sheet_of(count);
+    let mut handed = sheet.clone();
     let mut tables = [0, 1, 2, 3].map(|_| vec![0; line.table_len()]);
     let [table, own_table, from, to] = &mut tables;
     let timed = time_in_turn(
         SAMPLES,
         [
-            sample(|| ffi::read(black_box(&sheet), table)),
+            sample(|| ffi::read(ReadOnly(Handed::all(black_box(&mut handed))), Handed::all(table))),
             sample(|| sheet::read(black_box(&sheet), own_table)),
             copy(from, to),
         ],
@@ -88,12 +93,13 @@ fn step(round: u8) -> [Nanoseconds; 3] {
     let station = Station { round, ..opened };
     let row = Lot(round.into()).ballots(&line, line.n());
     let next = station.take(&row).expect("a running station");
-    assert_eq!(ffi::advance(&station, &row), u64::from(ffi::state(&next)), "the stations differ");
-    let mut copied = row.clone();
+    let (mut handed, mut copied) = (row.clone(), row.clone());
+    let advanced = ffi::advance(&station, ReadOnly(Handed::all(&mut handed)));
+    assert_eq!(advanced, u64::from(ffi::state(&next)), "the stations differ");
     time_in_turn(
         SAMPLES,
         [
-            sample(|| ffi::advance(black_box(&station), black_box(&row))),
+            sample(|| ffi::advance(black_box(&station), ReadOnly(Handed::all(black_box(&mut handed))))),
             sample(|| black_box(&station).take(black_box(&row))),
             copy(&row, &mut copied),
         ],

@@ -1,8 +1,11 @@
 //! The verified implementation's calls, from its static libraries. All unsafe code stands here.
 //!
-//! A slice is handed over as a pointer and a length. An answer of 64 bits has the refusal's number above,
+//! Bytes are handed over as a pointer and a length. An answer of 64 bits has the refusal's number above,
 //! 0 where nothing is refused, and the values below.
 #![allow(unsafe_code)]
+
+use std::marker::PhantomData;
+use std::ops::Range;
 
 use crate::line::Header;
 use crate::station::Station;
@@ -53,22 +56,48 @@ mod exported {
     }
 }
 
+/// Bytes within a buffer that are handed to a call. The pointer is one to the whole buffer, so that what a
+/// call writes beside the bytes is seen there.
+pub struct Handed<'a> {
+    start: *mut u8,
+    len: usize,
+    buffer: PhantomData<&'a mut [u8]>,
+}
+
+impl<'a> Handed<'a> {
+    /// A whole buffer.
+    pub fn all(buffer: &'a mut [u8]) -> Handed<'a> {
+        let len = buffer.len();
+        Handed::within(buffer, 0..len)
+    }
+
+    pub fn within(buffer: &'a mut [u8], range: Range<usize>) -> Handed<'a> {
+        assert!(range.start <= range.end && range.end <= buffer.len(), "the bytes stand in the buffer");
+        let start = buffer.as_mut_ptr().wrapping_add(range.start);
+        Handed { start, len: range.len(), buffer: PhantomData }
+    }
+}
+
+/// Bytes that a call may only read. They stand where it could write, so that it would be seen if it did.
+pub struct ReadOnly<'a>(pub Handed<'a>);
+
 /// A station's state as a number: round, value, z and grade, lowest byte first.
 pub fn state(station: &Station) -> u32 {
     u32::from_le_bytes([station.round, station.value, station.z, station.grade])
 }
 
 /// Reads a sheet into a lent run table: the refusal's number.
-pub fn read(sheet: &[u8], table: &mut [u8]) -> u8 {
-    // SAFETY: both slices live through the call, and only the table is written.
-    unsafe { exported::vembopu_read(sheet.as_ptr(), sheet.len(), table.as_mut_ptr(), table.len()) }
+pub fn read(sheet: ReadOnly, table: Handed) -> u8 {
+    let sheet = &sheet.0;
+    // SAFETY: the bytes are each in a buffer of its own, borrowed through the call.
+    unsafe { exported::vembopu_read(sheet.start, sheet.len, table.start, table.len) }
 }
 
 /// Rehearses a broadcast: the refusal's number.
-pub fn rehearse(header: &Header, table: &[u8], log: &mut [u8], outcomes: &mut [u8]) -> u8 {
+pub fn rehearse(header: &Header, table: ReadOnly, log: Handed, outcomes: Handed) -> u8 {
     let Header { n, t, upper, sender, value, marks } = *header;
-    let (log_len, outcomes_len) = (log.len(), outcomes.len());
-    // SAFETY: the slices live through the call and don't overlap, and only log and outcomes are written.
+    let table = &table.0;
+    // SAFETY: as for `read`.
     unsafe {
         exported::vembopu_rehearse(
             n,
@@ -77,12 +106,12 @@ pub fn rehearse(header: &Header, table: &[u8], log: &mut [u8], outcomes: &mut [u
             sender,
             value,
             marks.0,
-            table.as_ptr(),
-            table.len(),
-            log.as_mut_ptr(),
-            log_len,
-            outcomes.as_mut_ptr(),
-            outcomes_len,
+            table.start,
+            table.len,
+            log.start,
+            log.len,
+            outcomes.start,
+            outcomes.len,
         )
     }
 }
@@ -91,24 +120,24 @@ pub fn rehearse(header: &Header, table: &[u8], log: &mut [u8], outcomes: &mut [u
 pub fn exchange(
     (n, t, upper): (u8, u8, u8),
     marks: u32,
-    inputs: &[u8],
-    table: &[u8],
-    outcomes: &mut [u8],
+    inputs: ReadOnly,
+    table: ReadOnly,
+    outcomes: Handed,
 ) -> u8 {
-    let outcomes_len = outcomes.len();
-    // SAFETY: the slices live through the call and don't overlap, and only the outcomes are written.
+    let (inputs, table) = (&inputs.0, &table.0);
+    // SAFETY: as for `read`.
     unsafe {
         exported::vembopu_exchange(
             n,
             t,
             upper,
             marks,
-            inputs.as_ptr(),
-            inputs.len(),
-            table.as_ptr(),
-            table.len(),
-            outcomes.as_mut_ptr(),
-            outcomes_len,
+            inputs.start,
+            inputs.len,
+            table.start,
+            table.len,
+            outcomes.start,
+            outcomes.len,
         )
     }
 }
@@ -127,16 +156,19 @@ pub fn ballot(station: &Station) -> u64 {
 }
 
 /// A station takes a row: its next state, or the same where the row is refused.
-pub fn advance(station: &Station, row: &[u8]) -> u64 {
+pub fn advance(station: &Station, row: ReadOnly) -> u64 {
     let Station { n, t, upper, sender, own, .. } = *station;
-    // SAFETY: the row lives through the call and isn't written.
-    unsafe { exported::vembopu_advance(n, t, upper, sender, own, state(station), row.as_ptr(), row.len()) }
+    let row = &row.0;
+    // SAFETY: as for `read`.
+    unsafe { exported::vembopu_advance(n, t, upper, sender, own, state(station), row.start, row.len) }
 }
 
 /// A lent station, nine bytes, takes a row where it stands: the refusal's number.
-pub fn advance_lent(station: &mut [u8; 9], row: &[u8]) -> u8 {
-    // SAFETY: both live through the call and don't overlap, and only the nine bytes are written.
-    unsafe { exported::vembopu_advance_lent(station.as_mut_ptr(), row.as_ptr(), row.len()) }
+pub fn advance_lent(station: Handed, row: ReadOnly) -> u8 {
+    assert_eq!(station.len, 9, "a lent station has nine bytes");
+    let row = &row.0;
+    // SAFETY: as for `read`.
+    unsafe { exported::vembopu_advance_lent(station.start, row.start, row.len) }
 }
 
 /// A station's result: byte 0 is 0 and byte 1 the round, or byte 0 is 1, then value, grade and flag.
@@ -144,4 +176,46 @@ pub fn result(station: &Station) -> u64 {
     let Station { n, t, upper, sender, own, .. } = *station;
     // SAFETY: numbers only.
     unsafe { exported::vembopu_result(n, t, upper, sender, own, state(station)) }
+}
+
+/// Calls that write to what they may only read, for the tests.
+#[cfg(test)]
+pub mod planted {
+    use std::cell::Cell;
+
+    use crate::compare::report::Compared;
+
+    thread_local! {
+        /// Which of the buffers to be read that are handed over from now on, and which of its bytes.
+        static WRITE: Cell<Option<(usize, isize)>> = const { Cell::new(None) };
+    }
+
+    /// Compares once for each of the first three buffers, with a write to it, and gives the buffers that are
+    /// told to have changed there. None is told of a buffer that isn't handed over.
+    pub fn found(byte: isize, mut compare: impl FnMut() -> Compared) -> Vec<&'static str> {
+        let mut told = |buffer| {
+            WRITE.set(Some((buffer, byte)));
+            compare().difference.unwrap_or_default()
+        };
+        let names = |told: String| {
+            let changed = |name: &&str| told.contains(&format!("{name}, only to be read, byte {byte}: "));
+            ["the sheet", "the table", "the inputs", "the row"].into_iter().filter(changed).collect()
+        };
+        let found = (0..3).flat_map(|buffer| -> Vec<&str> { names(told(buffer)) }).collect();
+        WRITE.set(None);
+        found
+    }
+
+    impl Drop for super::ReadOnly<'_> {
+        /// After the call.
+        fn drop(&mut self) {
+            match WRITE.get() {
+                // SAFETY: a test names a byte of the whole buffer.
+                Some((0, byte)) => unsafe { *self.0.start.offset(byte) ^= 1 },
+                Some((later, byte)) => return WRITE.set(Some((later - 1, byte))),
+                None => {}
+            }
+            WRITE.set(None);
+        }
+    }
 }

@@ -25,7 +25,7 @@ fn two(bytes: &[u8], at: usize) -> usize {
 
 /// The header's numbers, not judged. Cause 1.
 pub fn header(sheet: &[u8]) -> Result<Header, Cause> {
-    let k_records = sheet.len() >= HEADER_LEN && (sheet.len() - HEADER_LEN).is_multiple_of(RECORD_LEN);
+    let k_records = sheet.len() >= HEADER_LEN && (sheet.len() - HEADER_LEN) % RECORD_LEN == 0;
     require(k_records && sheet.len() <= LONGEST && sheet[5] == 0, Cause::SheetForm)?;
     let marks = u32::from_le_bytes([sheet[8], sheet[9], sheet[10], sheet[11]]);
     Ok(Header {

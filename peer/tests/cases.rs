@@ -1,4 +1,4 @@
-//! The document's cases A to H, and the programs that would pass on a quiet line.
+//! The document's cases A to H, sheets that are no sheets by their length, and the rounds' parts.
 
 mod common;
 

@@ -44,29 +44,47 @@ fn guarantees(header: &Header, outcomes: &[u8]) {
     }
 }
 
+/// How many runs end with a flag, and in how many two good stations decide differently.
+#[derive(Default, Debug)]
+struct Seen {
+    flags: usize,
+    splits: usize,
+}
+
+impl Seen {
+    /// Holds a run to its guarantees.
+    fn run(&mut self, header: &Header, table: &[u8]) {
+        let (_, outcomes) = run(header, table);
+        guarantees(header, &outcomes);
+        let decided = decided(header, &outcomes);
+        self.flags += usize::from(decided.iter().any(|outcome| outcome[2] == 1));
+        self.splits += usize::from(decided.windows(2).any(|two| two[0][0] != two[1][0]));
+    }
+
+    /// Without flags and splits the guarantees would say little.
+    fn reaches(&self, flags: usize, splits: usize) {
+        assert!(self.flags >= flags && self.splits >= splits, "{self:?}");
+    }
+}
+
 #[test]
 fn demand_3() {
-    let mut lot = Lot(10);
-    let (mut flags, mut splits) = (0, 0);
+    let (mut lot, mut seen) = (Lot(10), Seen::default());
     for _ in 0..60_000 {
         let (header, line) = lot.header_near_thresholds(9);
-        let (_, outcomes) = run(&header, &lot.table(&line));
-        guarantees(&header, &outcomes);
-        let decided = decided(&header, &outcomes);
-        flags += usize::from(decided.iter().any(|outcome| outcome[2] == 1));
-        splits += usize::from(decided.windows(2).any(|two| two[0][0] != two[1][0]));
+        seen.run(&header, &lot.table(&line));
     }
-    assert!(flags > 500 && splits > 50, "the lot must reach flags and splits: {flags} {splits}");
+    seen.reaches(500, 50);
 }
 
 #[test]
 fn demand_3_on_long_lines() {
-    let mut lot = Lot(11);
+    let (mut lot, mut seen) = (Lot(11), Seen::default());
     for _ in 0..500 {
         let (header, line) = lot.header_near_thresholds(32);
-        let (_, outcomes) = run(&header, &lot.table(&line));
-        guarantees(&header, &outcomes);
+        seen.run(&header, &lot.table(&line));
     }
+    seen.reaches(200, 10);
 }
 
 /// Every table of one bad station's effective bytes in the smallest line with t 1 would be too many;
@@ -75,13 +93,15 @@ fn demand_3_on_long_lines() {
 fn demand_3_on_every_split_of_case_c() {
     let header = common::header(3, 0, 1, 1, 0, 0b001);
     let line = header.judge().unwrap();
+    let mut seen = Seen::default();
     for bits in 0..1 << 10 {
         let mut table = vec![255; line.table_len()];
         for (bit, (round, to)) in [1, 2, 3, 5, 6].iter().flat_map(|&r| [(r, 2), (r, 3)]).enumerate() {
             table[line.place(round, 1, to)] = (bits >> bit & 1) as u8;
         }
-        guarantees(&header, &run(&header, &table).1);
+        seen.run(&header, &table);
     }
+    seen.reaches(500, 30);
 }
 
 /// The bytes sent to one station in one round.

@@ -104,6 +104,7 @@ fn records_outside_the_chain_are_ignored() {
     let mut sheet = three();
     sheet.extend([255; 8 * 5]);
     assert_eq!(records(&sheet), records(&three()));
+    assert_eq!(records(&sheet).map(|(_, chained)| chained.len()), Ok(3));
     // record 2 skipped
     assert_eq!(edited(&[(16, 3), (20, 0), (21, 9), (24, 200)]), 0);
 }

@@ -98,6 +98,15 @@ fn a_king_tells_its_y() {
     assert_eq!(king.ballot(), Ok(0));
 }
 
+/// With grade 0 a station takes the king's ballot, with grade 1 or 2 it keeps its own y.
+#[test]
+fn a_king_is_obeyed_at_grade_0() {
+    for (grade, value) in [(0, 0), (1, 1), (2, 1)] {
+        let station = Station::from_bytes([4, 1, 1, 2, 3, 4, 1, 2, grade]);
+        assert_eq!(station.take(&[0, 1, 1, 1]).unwrap().value, value, "grade {grade}");
+    }
+}
+
 /// A garbled, blank or missing king's ballot is read as 0.
 #[test]
 fn a_foreign_king() {

@@ -1,7 +1,7 @@
 //! The calls on whole lines compared: the rehearsal and the exchange had alone.
 
 use super::input::Told;
-use super::lent::{difference, Lending};
+use super::lent::{difference, Lending, Reading};
 use super::report::Compared;
 use crate::exchange::alone;
 use crate::ffi;
@@ -75,10 +75,11 @@ pub fn rehearse(lot: &mut Lot) -> Compared {
 
 /// A run rehearsed by both into lent buffers.
 pub fn rehearse_into(header: &Header, table: &[u8], log: &mut Lending, outcomes: &mut Lending) -> Compared {
+    let mut read = Reading::new("the table", table);
     let ours = rehearsal::rehearse(header, table, log.ours.bytes(), outcomes.ours.bytes());
-    let theirs = ffi::rehearse(header, table, log.theirs.bytes(), outcomes.theirs.bytes());
+    let theirs = ffi::rehearse(header, read.handed(), log.theirs.handed(), outcomes.theirs.handed());
     let number = number(ours);
-    let differs = difference(number, theirs, &[log, outcomes]);
+    let differs = difference(number, theirs, &[log, outcomes], &[&read]);
     let lengths = [log.theirs.bytes().len(), outcomes.theirs.bytes().len()].map(|len| len as u64);
     let told = |what: String| {
         let told = Told::new(&what).header(header).bytes("table", table);
@@ -127,9 +128,11 @@ pub fn exchange_into(
     table: &[u8],
     outcomes: &mut Lending,
 ) -> Compared {
+    let mut read = [Reading::new("the inputs", inputs), Reading::new("the table", table)];
     let number = number(alone(numbers, marks, inputs, table, outcomes.ours.bytes()));
-    let theirs = ffi::exchange(numbers, marks.0, inputs, table, outcomes.theirs.bytes());
-    let differs = difference(number, theirs, &[outcomes]);
+    let [first, second] = read.each_mut().map(Reading::handed);
+    let theirs = ffi::exchange(numbers, marks.0, first, second, outcomes.theirs.handed());
+    let differs = difference(number, theirs, &[outcomes], &read.each_ref());
     let outcomes_len = outcomes.theirs.bytes().len() as u64;
     let told = |what: String| {
         let told = Told::new(&what).line(numbers).marks(marks).bytes("inputs", inputs);

@@ -92,3 +92,28 @@ impl Comparison {
         head + &report::table(&self.found) + &report::closing(&self.found, self.turns >= ENOUGH)
     }
 }
+
+#[cfg(test)]
+mod tests {
+    use super::*;
+    use crate::ffi::planted;
+
+    /// For each buffer that a call may only read, before its first byte and at it.
+    #[test]
+    fn a_planted_write_to_what_is_only_to_be_read() {
+        for call in &CALLS {
+            let expected: &[&str] = match call.name {
+                "read" => &["the sheet"],
+                "rehearse" => &["the table"],
+                "exchange" => &["the table", "the inputs"],
+                "advance" | "advance_lent" => &["the row"],
+                "whole run" => &["the row"; 3],
+                _ => &[],
+            };
+            for byte in [-1, 0] {
+                let found = planted::found(byte, || (call.compare)(&mut Lot(1)));
+                assert_eq!(found, expected, "{}, byte {byte}", call.name);
+            }
+        }
+    }
+}

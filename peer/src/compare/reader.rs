@@ -1,7 +1,7 @@
 //! The reader compared.
 
 use super::input::Told;
-use super::lent::{difference, Lending};
+use super::lent::{difference, Lending, Reading};
 use super::report::Compared;
 use super::sheets;
 use crate::ffi;
@@ -36,9 +36,10 @@ pub fn read(lot: &mut Lot) -> Compared {
 
 /// A sheet read into a lent table by both.
 pub fn read_into(sheet: &[u8], table: &mut Lending) -> Compared {
+    let mut read = Reading::new("the sheet", sheet);
     let number = sheet::read(sheet, table.ours.bytes()).map_or_else(Cause::number, |_| 0);
-    let theirs = ffi::read(sheet, table.theirs.bytes());
+    let theirs = ffi::read(read.handed(), table.theirs.handed());
     let len = table.theirs.bytes().len() as u64;
     let told = |what: String| Told::new(&what).bytes("sheet", sheet).number("table length", len).text();
-    Compared { number, difference: difference(number, theirs, &[table]).map(told) }
+    Compared { number, difference: difference(number, theirs, &[table], &[&read]).map(told) }
 }

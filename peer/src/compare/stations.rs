@@ -1,7 +1,7 @@
 //! The calls of one station compared, in any state.
 
 use super::input::Told;
-use super::lent::{self, Lending};
+use super::lent::{self, Lending, Reading};
 use super::lines::header;
 use super::report::Compared;
 use crate::ffi;
@@ -36,8 +36,8 @@ fn difference(ours: u64, theirs: u64) -> Option<String> {
     (ours != theirs).then(|| format!("peer answers {ours:#x}, verified {theirs:#x}"))
 }
 
-fn compared(ours: u64, theirs: u64, told: impl FnOnce(Told) -> Told) -> Compared {
-    let difference = difference(ours, theirs).map(|what| told(Told::new(&what)).text());
+fn compared(ours: u64, difference: Option<String>, told: impl FnOnce(Told) -> Told) -> Compared {
+    let difference = difference.map(|what| told(Told::new(&what)).text());
     Compared { number: (ours >> 32) as u8, difference }
 }
 
@@ -119,7 +119,7 @@ pub fn result(lot: &mut Lot) -> Compared {
 pub fn open_with(line: (u8, u8, u8), sender: u8, own: u8, value: u8) -> Compared {
     let opened = Station::open(line, sender, own, value);
     let ours = word(opened.map(|station| ffi::state(&station)), 0);
-    compared(ours, ffi::open(line, sender, own, value), |told| {
+    compared(ours, difference(ours, ffi::open(line, sender, own, value)), |told| {
         told.line(line).number("sender", sender).number("own", own).number("value", value)
     })
 }
@@ -127,28 +127,32 @@ pub fn open_with(line: (u8, u8, u8), sender: u8, own: u8, value: u8) -> Compared
 /// A station's ballot told by both.
 pub fn ballot_of(station: &Station) -> Compared {
     let ours = word(station.ballot().map(u32::from), 0);
-    compared(ours, ffi::ballot(station), |told| told.station(station))
+    compared(ours, difference(ours, ffi::ballot(station)), |told| told.station(station))
 }
 
 /// A row taken by both.
 pub fn advance_by(station: &Station, row: &[u8]) -> Compared {
+    let mut read = Reading::new("the row", row);
     let ours = word(station.take(row).map(|next| ffi::state(&next)), ffi::state(station));
-    compared(ours, ffi::advance(station, row), |told| told.station(station).bytes("row", row))
+    let theirs = ffi::advance(station, read.handed());
+    let differs = difference(ours, theirs).or_else(|| read.fault());
+    compared(ours, differs, |told| told.station(station).bytes("row", row))
 }
 
 /// A row taken by both where the station's nine bytes stand.
 pub fn advance_lent_by(row: &[u8], lent: &mut Lending) -> Compared {
+    let mut read = Reading::new("the row", row);
     let bytes: &mut [u8; 9] = lent.ours.bytes().try_into().expect("nine bytes");
     let station = Station::from_bytes(*bytes);
     let ours = station.take(row).map(|next| *bytes = next.to_bytes());
     let number = ours.map_or_else(Cause::number, |()| 0);
-    let theirs = ffi::advance_lent(lent.theirs.bytes().try_into().expect("nine bytes"), row);
+    let theirs = ffi::advance_lent(lent.theirs.handed(), read.handed());
     let told = |what: String| Told::new(&what).station(&station).bytes("row", row).text();
-    Compared { number, difference: lent::difference(number, theirs, &[lent]).map(told) }
+    Compared { number, difference: lent::difference(number, theirs, &[lent], &[&read]).map(told) }
 }
 
 /// A station's result told by both.
 pub fn result_of(station: &Station) -> Compared {
     let ours = word(station.result().map(result_values), 0);
-    compared(ours, ffi::result(station), |told| told.station(station))
+    compared(ours, difference(ours, ffi::result(station)), |told| told.station(station))
 }

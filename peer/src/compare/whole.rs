@@ -1,9 +1,10 @@
 //! Whole runs station by station: the verified station against the log and the outcomes.
 
 use super::input::Told;
+use super::lent::Reading;
 use super::report::Compared;
 use super::stations::{result_values, word};
-use crate::ffi;
+use crate::ffi::{self, Handed};
 use crate::line::{Header, Line};
 use crate::lot::Lot;
 use crate::rehearsal::rehearse;
@@ -49,10 +50,14 @@ impl Run {
             if Some(ffi::ballot(&station)) != self.said(round, own).map(u64::from) {
                 return fault("the ballot is another", round);
             }
-            let heard = self.heard(round, own);
-            state = ffi::advance(&station, &heard);
+            let mut heard = Reading::new("the row", &self.heard(round, own));
+            state = ffi::advance(&station, heard.handed());
             let mut lent = station.to_bytes();
-            if ffi::advance_lent(&mut lent, &heard) != 0 || lent != at(state).to_bytes() {
+            let refused = ffi::advance_lent(Handed::all(&mut lent), heard.handed());
+            if let Some(changed) = heard.fault() {
+                return fault(&changed, round);
+            }
+            if refused != 0 || lent != at(state).to_bytes() {
                 return fault("the lent station is another", round);
             }
         }

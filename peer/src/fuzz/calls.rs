@@ -194,6 +194,7 @@ fn result(input: &[u8]) -> Tried {
 #[cfg(test)]
 mod tests {
     use super::*;
+    use crate::ffi::planted;
 
     #[test]
     fn what_an_input_is() {
@@ -207,6 +208,16 @@ mod tests {
         let told = Header { n: 9, t: 8, upper: 7, sender: 6, value: 5, marks };
         assert_eq!(header(&[9, 8, 7, 6, 5, 4, 3, 2, 1, 2, 3, 4]), told);
         assert_eq!(header(&[9, 8, 7, 6, 5, 4, 3, 2, 1, 2]).marks, Marks(0x0201));
+    }
+
+    #[test]
+    fn a_planted_write_to_what_is_only_to_be_read() {
+        let sheet = include_bytes!("../../../examples/b.sheet");
+        let found = |call: Call| planted::found(0, || (call.give)(&mut Lot(1), sheet).compared);
+        let found: Vec<Vec<&str>> = linked().into_iter().map(found).collect();
+        let (row, table) = (vec!["the row"], vec!["the table"]);
+        let expected = [vec!["the sheet"], table, vec!["the table", "the inputs"], vec![], vec![]];
+        assert_eq!(found, [&expected[..], &[row.clone(), row, vec![]]].concat());
     }
 
     /// Case A as it stands, and as a station in its first round.

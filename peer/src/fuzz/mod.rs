@@ -132,9 +132,12 @@ mod tests {
     use super::features::of_sheet;
     use super::pool::Shape;
     use super::*;
+    use crate::compare::lent::{difference, Lending, Lent, Reading};
+    use crate::compare::reader;
     use crate::compare::report::Compared;
     use crate::line::Cause;
     use crate::sheet;
+    use std::cell::RefCell;
 
     /// A reader that is wrong where a sheet with at least so many chained records is accepted.
     fn planted(records: usize) -> Call {
@@ -163,11 +166,31 @@ mod tests {
         assert_eq!(again.report(), fuzz.report());
     }
 
+    /// This implementation's reader stands for the verified one too. Each answer is counted here as well.
+    fn itself(counts: &Rc<RefCell<[u64; 14]>>) -> Call {
+        let counts = counts.clone();
+        Call::new("itself", Shape::Sheet, 1, &reader::NUMBERS, move |lot, input| {
+            let len = reader::table_len(lot, input);
+            let mut table = Lending::new(lot, "the table", len);
+            let read = |lent: &mut Lent| sheet::read(input, lent.bytes()).map_or_else(Cause::number, |_| 0);
+            let (number, again) = (read(&mut table.ours), read(&mut table.theirs));
+            counts.borrow_mut()[usize::from(number)] += 1;
+            let difference = difference(number, again, &[&table], &[&Reading::new("the sheet", input)]);
+            Tried { compared: Compared { number, difference }, features: of_sheet(input) }
+        })
+    }
+
     #[test]
     fn nothing_is_found_where_nothing_differs() {
-        let mut fuzz = Fuzz::of(1, vec![planted(usize::MAX)], &[SEEDS[2]]);
-        fuzz.run(Until::Turns(ENOUGH));
-        assert!(fuzz.report().ends_with("\n1 passed, 0 failed\n"));
+        let counts = Rc::new(RefCell::new([0; 14]));
+        let mut fuzz = Fuzz::of(1, vec![itself(&counts)], &SEEDS);
+        fuzz.run(Until::Turns(5_000));
+        let report = fuzz.report();
+        let line: Vec<&str> =
+            report.lines().nth(2).expect("a line for the call").split_whitespace().collect();
+        let numbers: Vec<u64> = line[1..].iter().map(|word| word.parse().expect("a number")).collect();
+        assert_eq!((line[0], numbers[0], &numbers[1..]), ("itself", 5_000, &counts.borrow()[..]));
+        assert!(fuzz.failed() == 0 && report.ends_with("\n1 passed, 0 failed\n"), "{report}");
     }
 
     #[test]
@@ -187,5 +210,8 @@ mod tests {
         assert_eq!(Until::new("12"), Some(Until::Turns(12)));
         assert_eq!(Until::new("12s"), Some(Until::Seconds(12)));
         assert_eq!(["", "s", "-1", "12 s", "12m"].map(Until::new), [None; 5]);
+        let now = Instant::now();
+        assert_eq!([11, 12, 13].map(|turns| Until::Turns(12).reached(turns, now)), [false, true, true]);
+        assert_eq!([0, u64::MAX].map(|seconds| Until::Seconds(seconds).reached(9, now)), [true, false]);
     }
 }

@@ -1,0 +1,342 @@
+#!/usr/bin/env python3
+"""Holds every exported call and the program agree to the conformance vectors of vectors/ (vectors/README.md has their form).
+
+A call is handed each buffer with bytes around it that must stay as they are; so must what it may only read, and in a refused call every
+buffer. Then the test itself is tried: on copies of the vectors with a wrong answer planted in each, and on calls that write where they
+may not. The last line is 'N passed, M failed'.
+"""
+import copy
+import ctypes
+import json
+import pathlib
+import subprocess
+import sys
+import tempfile
+
+TOP = pathlib.Path(__file__).resolve().parent.parent
+VECTORS, PROGRAM = TOP / "vectors", TOP / "target" / "bin" / "agree"
+LIBRARIES = "exports", "controller", "lent"
+LINE, STATION, STATE = ("n", "t", "T"), ("n", "t", "T", "sender", "own"), ("round", "value", "z", "grade")
+AROUND, WORD = 64, 2 ** 32
+
+
+class Fault(Exception):
+    """What a call has done beside its answer."""
+
+
+# ---- the calls
+
+
+class Buffer:
+    """Bytes that a call is handed, with others before and behind them."""
+
+    def __init__(self, name, content, sized=True):
+        self.name, self.size, self.sized = name, len(content), sized
+        self.before = self.filling(AROUND) + bytes(content) + self.filling(AROUND)
+        self.held = (ctypes.c_uint8 * len(self.before))(*self.before)
+
+    @staticmethod
+    def filling(size):
+        """Bytes that a call would hardly write."""
+        return bytes((37 * place + 101) % 256 for place in range(size))
+
+    @classmethod
+    def lent(cls, name, size):
+        return cls(name, cls.filling(size))
+
+    def handed(self):
+        """What a call is given of it: where it begins, and how long it is."""
+        start = ctypes.addressof(self.held) + AROUND
+        return [start, self.size] if self.sized else [start]
+
+    def content(self):
+        return bytes(self.held)[AROUND:AROUND + self.size]
+
+    def hold_around(self):
+        after = bytes(self.held)
+        if (after[:AROUND], after[AROUND + self.size:]) != (self.before[:AROUND], self.before[AROUND + self.size:]):
+            raise Fault(f"written beside {self.name}")
+
+    def hold(self):
+        self.hold_around()
+        if bytes(self.held) != self.before:
+            raise Fault(f"{self.name} has changed")
+
+
+class Library:
+    """The exported calls, linked into one shared object."""
+
+    def __init__(self, path):
+        self.calls = ctypes.CDLL(str(path))
+        byte, word, size, place = ctypes.c_uint8, ctypes.c_uint32, ctypes.c_size_t, ctypes.c_void_p
+        buffer, station = [place, size], [byte] * 5
+        self.declare(byte, vembopu_read=buffer * 2, vembopu_advance_lent=[place] + buffer)
+        self.declare(byte, vembopu_exchange=[byte] * 3 + [word] + buffer * 3)
+        self.declare(byte, vembopu_rehearse=[byte] * 5 + [word] + buffer * 3)
+        self.declare(ctypes.c_uint64, vembopu_open=station + [byte], vembopu_advance=station + [word] + buffer)
+        self.declare(ctypes.c_uint64, vembopu_ballot=station + [word], vembopu_result=station + [word])
+
+    def declare(self, answer, **calls):
+        for name, arguments in calls.items():
+            call = getattr(self.calls, name)
+            call.argtypes, call.restype = arguments, answer
+
+    def call(self, name, *arguments):
+        flat = []
+        for argument in arguments:
+            flat += argument.handed() if isinstance(argument, Buffer) else [argument]
+        return getattr(self.calls, name)(*flat)
+
+
+def linked(folder):
+    """The static libraries as one shared object in this folder."""
+    subprocess.run([TOP / "tests" / "staticlib", *LIBRARIES], check=True)
+    shared = pathlib.Path(folder) / "libvembopu.so"
+    archives = [TOP / "target" / "staticlib" / f"lib{name}.a" for name in LIBRARIES]
+    subprocess.run(["gcc", "-shared", "-o", shared, "-Wl,--whole-archive", *archives, "-Wl,--no-whole-archive"], check=True)
+    return Library(shared)
+
+
+# ---- what each call makes of a vector's arguments, in the form of its answer
+
+
+def answer(number, read, written):
+    """An answer with its buffers: those that are only read are as they were, in a refused call the others too."""
+    for buffer in read + (written if number else []):
+        buffer.hold()
+    for buffer in written:
+        buffer.hold_around()
+    return {"refused": number} if number else {buffer.name: buffer.content().hex() for buffer in written}
+
+
+def given(args, *names):
+    return [Buffer(name, bytes.fromhex(args[name])) for name in names]
+
+
+def lent(args, *names):
+    return [Buffer.lent(name, args[name + "_len"]) for name in names]
+
+
+def read(library, args):
+    sheet, table = given(args, "sheet"), lent(args, "table")
+    return answer(library.call("vembopu_read", *sheet, *table), sheet, table)
+
+
+def exchange(library, args):
+    numbers = [args[name] for name in (*LINE, "marks")]
+    inputs, outcomes = given(args, "inputs", "table"), lent(args, "outcomes")
+    return answer(library.call("vembopu_exchange", *numbers, *inputs, *outcomes), inputs, outcomes)
+
+
+def rehearse(library, args):
+    numbers = [args[name] for name in (*LINE, "sender", "value", "marks")]
+    table, made = given(args, "table"), lent(args, "log", "outcomes")
+    return answer(library.call("vembopu_rehearse", *numbers, *table, *made), table, made)
+
+
+class Station:
+    """A station by its numbers and its state."""
+
+    def __init__(self, library, numbers, state):
+        self.library, self.numbers, self.state = library, numbers, state
+
+    def asked(self, name):
+        """Refusal and values of a call on numbers; a refusal has no values."""
+        refused, values = divmod(self.library.call(name, *self.numbers, self.state), WORD)
+        if refused and values:
+            raise Fault(f"{name}: {values} with a refusal")
+        return refused, values
+
+    def ballot(self):
+        refused, values = self.asked("vembopu_ballot")
+        return {"refused": refused} if refused else values
+
+    def result(self):
+        refused, values = self.asked("vembopu_result")
+        if refused:
+            return {"refused": refused}
+        done, *rest = values.to_bytes(4, "little")
+        return {"done": rest} if done == 1 else {"running": values >> 8} if done == 0 else values
+
+    def nine_bytes(self):
+        return bytes(self.numbers) + self.state.to_bytes(4, "little")
+
+    def take(self, row):
+        """The refusal's number, 0 where the row is taken, by the call on numbers and by the one on nine bytes."""
+        row, nine = Buffer("row", row), Buffer("station", self.nine_bytes(), sized=False)
+        refused, after = divmod(self.library.call("vembopu_advance", *self.numbers, self.state, row), WORD)
+        number = self.library.call("vembopu_advance_lent", nine, row)
+        answer(refused, [row], [nine])
+        if refused and after != self.state:
+            raise Fault("another state with a refused row")
+        self.state = after
+        if (number, nine.content()) != (refused, self.nine_bytes()):
+            raise Fault(f"the lent station answers {number} and is {nine.content().hex()}, not {refused} and {self.nine_bytes().hex()}")
+        return refused
+
+
+def step(station, row):
+    ballot, result, refused = station.ballot(), station.result(), station.take(row)
+    return {"ballot": ballot, "result": result, "row": {"refused": refused} if refused else "taken"}
+
+
+def station(library, args):
+    numbers = [args[name] for name in STATION]
+    one = Station(library, numbers, args["value"])
+    refused, state = one.asked("vembopu_open")
+    if refused:
+        return {"refused": refused}
+    one.state = state
+    steps = [step(one, bytes.fromhex(row)) for row in args["rows"]]
+    return {"steps": steps, "result": one.result()}
+
+
+def station_state(library, args):
+    state = int.from_bytes(bytes(args[name] for name in STATE), "little")
+    one = Station(library, [args[name] for name in STATION], state)
+    refusals = {"ballot": one.asked("vembopu_ballot")[0], "result": one.asked("vembopu_result")[0]}
+    return {"refusals": {**refusals, "row": one.take(bytes.fromhex(args["row_bytes"]))}}
+
+
+CALLS = {call.__name__: call for call in (read, exchange, rehearse, station, station_state)}
+
+
+def call_fault(library, vector):
+    """What is wrong with what the call makes of a vector, if anything is."""
+    try:
+        made = CALLS[vector["call"]](library, vector["args"])
+    except Fault as fault:
+        return str(fault)
+    return None if made == vector["want"] else f"gives {made}, wanted is {vector['want']}"
+
+
+def listing_fault(program, vector):
+    """What is wrong with what the program prints of a sheet, if anything is."""
+    done = subprocess.run([program], input=bytes.fromhex(vector["sheet"]), capture_output=True)
+    made = done.returncode, done.stdout, done.stderr
+    return None if made == (0, vector["listing"].encode(), b"") else f"gives {made}, wanted is {vector['listing']!r}"
+
+
+# ---- the test of the test
+
+
+def leaves(want, path=()):
+    """The places of an answer's numbers and texts."""
+    if not isinstance(want, (dict, list)):
+        return [path]
+    inner = want.items() if isinstance(want, dict) else enumerate(want)
+    return [leaf for key, value in inner for leaf in leaves(value, (*path, key))]
+
+
+def wrong(value):
+    """Another value of the same kind."""
+    if isinstance(value, int):
+        return value + 1
+    if value == "taken":
+        return {"refused": 8}
+    return value[:-1] + ("0" if value[-1] != "0" else "1")
+
+
+def planted(vector, path):
+    """A copy of the vector that is wrong at this place."""
+    made = copy.deepcopy(vector)
+    inner = made
+    for key in path[:-1]:
+        inner = inner[key]
+    inner[path[-1]] = wrong(inner[path[-1]])
+    return made
+
+
+class Writing:
+    """A library of which one call writes a byte of one of its buffers."""
+
+    def __init__(self, library, name, buffer, place):
+        self.library, self.name, self.buffer, self.place = library, name, buffer, place
+
+    def call(self, name, *arguments):
+        number = self.library.call(name, *arguments)
+        if name == self.name:
+            buffer = [argument for argument in arguments if isinstance(argument, Buffer)][self.buffer]
+            buffer.held[AROUND + (buffer.size if self.place == "behind" else self.place)] ^= 1
+        return number
+
+
+BUFFERS = {
+    "read": {"vembopu_read": 2}, "exchange": {"vembopu_exchange": 3}, "rehearse": {"vembopu_rehearse": 3},
+    "station": {"vembopu_advance": 1, "vembopu_advance_lent": 2}, "station_state": {"vembopu_advance": 1, "vembopu_advance_lent": 2},
+}
+
+
+def writings(library, vector):
+    """Each call of a vector with a byte written before, in and behind each of its buffers."""
+    for name, buffers in BUFFERS[vector["call"]].items():
+        for buffer in range(buffers):
+            for place in -1, 0, "behind":
+                yield f"{name}, buffer {buffer}, byte {place}", Writing(library, name, buffer, place)
+
+
+def samples(vectors):
+    """One vector of each call that is accepted, and one that is refused."""
+    kinds = {(vector["call"], "refused" in vector["want"]): vector for vector in reversed(vectors) if vector["args"].get("rows") != []}
+    return list(kinds.values())
+
+
+def told(vectors, fault):
+    """Writes vectors to a file and reads them back; how many of them are told to be wrong."""
+    with tempfile.TemporaryDirectory() as folder:
+        path = pathlib.Path(folder) / "planted.jsonl"
+        path.write_text("".join(json.dumps(vector) + "\n" for vector in vectors))
+        return sum(fault(vector) is not None for _, vector in lines(path))
+
+
+def own_checks(library, calls, listings):
+    """A name and whether it holds, for each check of the test itself."""
+    for name in CALLS:
+        yield f"there are vectors of {name}", any(vector["call"] == name for vector in calls)
+    for vector in samples(calls):
+        name = vector["call"] + (", refused" if "refused" in vector["want"] else "")
+        wrongs = [planted(vector, ("want", *path)) for path in leaves(vector["want"])]
+        yield f"{name}: all of {len(wrongs)} wrong answers are told", told(wrongs, lambda one: call_fault(library, one)) == len(wrongs) > 0
+        if vector["call"] != "station" or "refused" not in vector["want"]:
+            for what, writing in writings(library, vector):
+                yield f"{name}: {what}", call_fault(writing, vector) is not None
+    for vector in listings[:3]:
+        wrongs = [planted(vector, ("listing",)), {**vector, "listing": vector["listing"] + "\n"}, {**vector, "listing": ""}]
+        yield "a wrong listing is told", told(wrongs, lambda one: listing_fault(PROGRAM, one)) == 3
+    yield "another program is told", listing_fault("false", listings[0]) is not None
+
+
+# ---- all together
+
+
+def lines(path):
+    """Each vector of a file, with its place."""
+    return [(f"{path.name}:{number}", json.loads(line)) for number, line in enumerate(path.read_text().splitlines(), 1)]
+
+
+def checks(library):
+    """A name and whether it holds, for each check."""
+    calls, listings = (lines(VECTORS / name) for name in ("calls.jsonl", "listings.jsonl"))
+    faults = [(place, call_fault(library, vector)) for place, vector in calls]
+    faults += [(place, listing_fault(PROGRAM, vector)) for place, vector in listings]
+    for place, fault in faults:
+        yield f"vectors/{place}: {fault}", fault is None
+    yield from own_checks(library, [vector for _, vector in calls], [vector for _, vector in listings])
+
+
+def main():
+    if not PROGRAM.exists():
+        print("the program is not built; `rt check agree` builds it\n0 passed, 1 failed")
+        return 1
+    passed = failed = 0
+    with tempfile.TemporaryDirectory() as folder:
+        for name, holds in checks(linked(folder)):
+            passed, failed = passed + holds, failed + (not holds)
+            if not holds:
+                print(f"FAILED: {name[:2000]}")
+    print(f"{passed} passed, {failed} failed")
+    return failed != 0
+
+
+if __name__ == "__main__":
+    sys.exit(main())
