@@ -15,11 +15,16 @@ fail() {
     add 0 1
 }
 
-# check NAME COMMAND..: one test, passed if the command succeeds
+# check NAME COMMAND..: one test, passed if the command succeeds; its own status tells that too
 check() {
     local name=$1
     shift
-    if "$@"; then add 1 0; else fail "$name"; fi
+    if "$@"; then
+        add 1 0
+    else
+        fail "$name"
+        return 1
+    fi
 }
 
 # not_run WORDS..: what can't be run here; said at once, and once more before the closing count
