@@ -11,8 +11,8 @@
  * Each call answers with the number of the refusal, 0 if accepted. Any content
  * may be handed in. A call reads nothing but its arguments and the bytes that
  * they point to, keeps nothing, and the same arguments always give the same
- * answer and the same bytes. It writes only what is said below, and nothing at
- * all if it is refused. It calls nothing but memcpy and memset, which it takes
+ * answer and the same bytes. It writes only what is said below; if it is refused,
+ * every byte is as it was. It calls nothing but memcpy and memset, which it takes
  * from the C library.
  *
  * A pointer has to point to as many bytes as its length says, which nobody else

@@ -10,6 +10,8 @@ import re
 import subprocess
 import sys
 
+from counting import closing
+
 TOP = pathlib.Path(__file__).resolve().parent.parent
 DOCUMENTS = ["README.md", "docs/PROMISES.md", "docs/DECISIONS.md", "controller/README.md", "peer/README.md", "vectors/README.md"]
 WORD = re.compile(r"[\w\-′]+")
@@ -61,15 +63,5 @@ def edits():
         yield f"wrong program {name}: in docs/PROMISES.md and in {where}", (name, star) in told and (name, star) in there
 
 
-def main():
-    passed = failed = 0
-    for what, holds in [*names(words()), *edits()]:
-        passed, failed = passed + holds, failed + (not holds)
-        if not holds:
-            print(f"failed: {what}")
-    print(f"{passed} passed, {failed} failed")
-    return failed != 0
-
-
 if __name__ == "__main__":
-    sys.exit(main())
+    sys.exit(not closing([*names(words()), *edits()]))

@@ -6,11 +6,13 @@ examples.py --check  holds each sheet to the one made here, its listing to the m
                      inputs of odd lengths, and the command ./agree. The last line is 'N passed, M failed'
 """
 import os
+import pathlib
 import subprocess
 import sys
 
 import model
 import sheet as reader
+from counting import built, closing
 
 TOP = os.path.join(os.path.dirname(os.path.abspath(__file__)), "..")
 EXAMPLES = os.path.join(TOP, "examples")
@@ -142,20 +144,7 @@ def checks():
     yield "./agree tells what can't be written", done.returncode == 1 and b"could not be written" in done.stderr
 
 
-def check():
-    if not os.path.exists(PROGRAM):
-        print("the program is not built; `rt check agree` builds it\n0 passed, 1 failed")
-        return False
-    passed = failed = 0
-    for name, holds in checks():
-        passed, failed = passed + holds, failed + (not holds)
-        if not holds:
-            print(f"failed: {name}")
-    print(f"{passed} passed, {failed} failed")
-    return failed == 0
-
-
 if __name__ == "__main__":
     if sys.argv[1:] == ["--check"]:
-        sys.exit(0 if check() else 1)
+        sys.exit(not (built(pathlib.Path(PROGRAM)) and closing(checks())))
     write()

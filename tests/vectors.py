@@ -13,6 +13,8 @@ import subprocess
 import sys
 import tempfile
 
+from counting import built, closing
+
 TOP = pathlib.Path(__file__).resolve().parent.parent
 VECTORS, PROGRAM = TOP / "vectors", TOP / "target" / "bin" / "agree"
 LIBRARIES = "exports", "controller", "lent"
@@ -325,18 +327,9 @@ def checks(library):
 
 
 def main():
-    if not PROGRAM.exists():
-        print("the program is not built; `rt check agree` builds it\n0 passed, 1 failed")
-        return 1
-    passed = failed = 0
     with tempfile.TemporaryDirectory() as folder:
-        for name, holds in checks(linked(folder)):
-            passed, failed = passed + holds, failed + (not holds)
-            if not holds:
-                print(f"FAILED: {name[:2000]}")
-    print(f"{passed} passed, {failed} failed")
-    return failed != 0
+        return closing(checks(linked(folder)))
 
 
 if __name__ == "__main__":
-    sys.exit(main())
+    sys.exit(not (built(PROGRAM) and main()))
