@@ -51,7 +51,7 @@ pub record OutcomeBytes (n : ℕ) (bad : ℕ → Bool) (bytes : List ℕ) : Type
   pub marked-grade : (i : ℕ) → i < n → bad i ≡ true → grade-at bytes i ≡ 255
   pub marked-flag : (i : ℕ) → i < n → bad i ≡ true → flag-at bytes i ≡ 255
 
--- of the exchange had alone
+-- of the outcomes of the exchange had alone
 abbrev pub Exchange-bytes : Type 0
 Exchange-bytes =
     (n t T marks : ℕ) (inputs table : List ℕ) → OutcomeBytes n (marked marks) (exchange-outcomes n t T marks inputs table)
@@ -112,7 +112,7 @@ abbrev pub Sent-by-rounds : Type 0
 Sent-by-rounds =
     (R : Run) → 1 ≤ R .sender → (i j : ℕ) → Good (R .n) (marked (R .marks)) i → j < R .n → SentByRounds R i j
 
--- the same of a run's outcomes
+-- what `OutcomeBytes` says, of a run's outcomes
 abbrev pub Outcome-bytes : Type 0
 Outcome-bytes = (R : Run) → OutcomeBytes (R .n) (marked (R .marks)) (outcomes R)
 
