@@ -71,6 +71,14 @@ both-hold = (
       then (fate _, refl)
       then (fate _, refl)
       then (fate _, refl)
+      then (fate _, refl)
+      then (fate _, refl)
+      then (fate _, refl)
+      then (fate _, refl)
+      then (fate _, refl)
+      then (fate _, refl)
+      then (fate _, refl)
+      then (fate _, refl)
       then tt,
 )
 

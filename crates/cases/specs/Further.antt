@@ -111,8 +111,16 @@ further =
     ∷ headed 4 2 8 (refused-by 5)
     -- 6: "a mark beyond station n"
     ∷ headed 1 1 16 (refused-by 6)
-    -- "The lowest number wins up to 8.": 5 and 6 both hold
+    -- "The lowest number wins up to 8.": 1 and 2 both hold, 2 and 3, 3 and 4, 4 and 5, 5 and 6
+    ∷ record { sheet = 0 ∷ 1 ∷ 1 ∷ 1 ∷ 1 ∷ 1 ∷ 0 ∷ 0 ∷ 8 ∷ 0 ∷ 0 ∷ 0 ∷ []; comes-out = refused-by 1 }
+    ∷ record { sheet = head 33 2 1 1 1 0 8; comes-out = refused-by 2 }
+    ∷ record { sheet = head 4 2 1 5 1 0 8; comes-out = refused-by 3 }
+    ∷ headed 5 2 8 (refused-by 4)
     ∷ headed 1 2 16 (refused-by 5)
+    -- "Then the whole chain is walked for 9 and 10": 6 comes before 9, and 9 and 10 before the 11 of a record passed
+    ∷ record { sheet = head 4 1 1 1 1 1 16; comes-out = refused-by 6 }
+    ∷ chained 1 (rec 0 4 1 1 2) (refused-by 9)
+    ∷ chained 1 (rec 0 4 1 1 1) (refused-by 10)
     -- 11: "a record's round outside 1 to R, a station outside 1 to n, or its last two bytes not zero": round 0 and 10, from 0 and 5, to 0 and 5, each last byte
     ∷ chained 1 (rec 0 4 1 1 0) (refused-by 11)
     ∷ chained 1 (rec 10 4 1 1 0) (refused-by 11)
@@ -124,6 +132,8 @@ further =
     ∷ chained 1 (1 ∷ 4 ∷ 1 ∷ 1 ∷ 0 ∷ 0 ∷ 0 ∷ 1 ∷ []) (refused-by 11)
     -- 12: "a record's from is not marked"
     ∷ chained 1 (rec 1 1 4 1 0) (writes refused-12)
+    -- "each for 11, 12, 13": 11 and 12 both hold
+    ∷ chained 1 (rec 0 1 4 1 0) (refused-by 11)
     -- 13: "an earlier chained record has the same round, from and to", also where both ballots are silence
     ∷ chained 1 (rec 1 4 1 1 2 ++ rec 1 4 1 0 0) (refused-by 13)
     ∷ chained 1 (rec 1 4 1 255 2 ++ rec 1 4 1 255 0) (refused-by 13)
