@@ -1,9 +1,9 @@
 #!/usr/bin/env python3
 """Names in the documents are names of the repository.
 
-Every path and every definition, statement, function or file that README.md and docs/ set in backticks is there; every
-wrong program that docs/PROMISES.md names is there, and every one that is there is named. Prints what fails, then
-'N passed, M failed'.
+Every path and every definition, statement, function or file that a document sets in backticks is there, and those that
+docs/PROMISES.md lays beside the papers stand in the file that it names; every wrong program that it names is there, and
+every one that is there is named. Prints what fails, then 'N passed, M failed'.
 """
 import pathlib
 import re
@@ -50,6 +50,17 @@ def names(known):
                 yield f"{document}: `{name}`", is_there(name, path.parent, known)
 
 
+def definitions():
+    """A definition of the table "Beside the papers" and whether it stands in the file that its row names."""
+    table = (TOP / "docs/PROMISES.md").read_text(encoding="utf-8").split("## Beside the papers", 1)[1].split("\n## ", 1)[0]
+    folders = dict((letter, folder) for folder, letter in re.findall(r"`(crates/\w+/specs)/` \((\w)\)", table))
+    for row in re.findall(r"^\|.*\| (.*) \| (\w \w+(?:, \w \w+)*) \|$", table, re.M):
+        files = [f"{folders[place[0]]}/{place[2:]}.antt" for place in row[1].split(", ")]
+        text = "".join((TOP / file).read_text(encoding="utf-8") for file in files)
+        for name in re.findall(r"`([^`]+)`", row[0]):
+            yield f"`{name}` is defined in {row[1]}", re.search(rf"\bpub (record |data )?{re.escape(name)}[ :]", text)
+
+
 def edits():
     """The wrong programs of the tables of docs/PROMISES.md beside the files."""
     text = (TOP / "docs/PROMISES.md").read_text(encoding="utf-8")
@@ -64,4 +75,4 @@ def edits():
 
 
 if __name__ == "__main__":
-    sys.exit(not closing([*names(words()), *edits()]))
+    sys.exit(not closing([*names(words()), *definitions(), *edits()]))
