@@ -1,6 +1,6 @@
 /*
  * The four calls written once more, in C from document 01, for the tests: the
- * judgement, and the steps of a station that is accepted. Shares nothing with
+ * judgement, and the steps of a station that is accepted. Shares no code with
  * the library.
  */
 #ifndef MODEL_H

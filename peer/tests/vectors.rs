@@ -1,4 +1,4 @@
-//! The conformance vectors of `vectors/`, computed by an implementation that shares nothing with this one.
+//! The conformance vectors of `vectors/`, computed from document 01 by another implementation.
 
 mod json;
 
