@@ -1,7 +1,6 @@
 # Counting tests under time limits: sourced by the gate, by its parts in bash, and by their own test.
 passed=0 failed=0 unrun=''
-# what is told to end has so many seconds before it is killed
-grace=10
+. "$(dirname "${BASH_SOURCE[0]}")/../commands/process_group.sh"
 
 # add P F: counts so many
 add() {
@@ -36,17 +35,6 @@ not_run() {
 # keep_unrun LINE: keeps the line for the end, once
 keep_unrun() {
     case $unrun in *"$1"$'\n'*) ;; *) unrun+=$1$'\n' ;; esac
-}
-
-# end_group PID: ends what is left of a process group
-end_group() {
-    local tries
-    kill -TERM -- "-$1" 2>/dev/null || return 0
-    for ((tries = 10 * grace; tries > 0; tries--)); do
-        sleep 0.1
-        kill -0 -- "-$1" 2>/dev/null || return 0
-    done
-    kill -KILL -- "-$1" 2>/dev/null
 }
 
 # limited SECONDS FILE COMMAND..: runs it for so long at most, shows what it prints and keeps it in the file. It is a process group of its

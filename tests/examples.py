@@ -1,9 +1,10 @@
 #!/usr/bin/env python3
-"""The examples: run sheets with their listings.
+"""The examples: run sheets, each with the text that it stands for and its listing.
 
-examples.py          writes examples/: document 01's cases A to D, a large run in which ten bad stations divide the good ones, and the longest listing
-examples.py --check  holds each sheet to the one made here, its listing to the model's, and what the program prints to the listing; then some
-                     inputs of odd lengths, and the command ./agree. The last line is 'N passed, M failed'
+examples.py          writes the sheets and listings of examples/: document 01's cases A to D, a large run in which ten bad stations divide the good ones,
+                     and the longest listing. The texts are written by hand
+examples.py --check  holds each sheet to the one made here and to its text, its listing to the model's, and what the program prints to the listing; then
+                     some inputs of odd lengths. The last line is 'N passed, M failed'
 """
 import os
 import pathlib
@@ -18,7 +19,6 @@ TOP = os.path.join(os.path.dirname(os.path.abspath(__file__)), "..")
 EXAMPLES = os.path.join(TOP, "examples")
 LARGEST_TABLE, LONGEST_LISTING = 36864, 300
 PROGRAM = os.path.join(TOP, "target", "bin", "agree")
-COMMAND = os.path.join(TOP, "agree")
 
 
 # ---- a listing in Python, from document 01
@@ -64,20 +64,25 @@ def shuffled(items, seed):
 
 
 def large():
-    """The largest line with ten bad stations, which keep the 22 good ones divided as long as they can: the sender and ten kings tell stations 11 to 21
-    a zero and 22 to 32 a one, and so do all ten in the exchanges. King 11 is good. The rest are garbled bytes among the bad. The chain takes the
-    records in another order than that of the file."""
-    bad, good = range(1, 11), range(11, 33)
-    cells = [(1, 7, j) for j in good] + [(3 * p + 1, p, j) for p in bad for j in good]
-    cells += [(r, i, j) for p in range(1, 12) for r in (3 * p - 1, 3 * p) for i in bad for j in good]
-    records = [(r, i, j, 0 if j <= 21 else 1) for r, i, j in cells[:4000]]
-    records += [(r, i, j, 100 + r) for r, i, j in [(r, i, j) for r in range(1, 37) for i in bad for j in bad][:96]]
+    """The largest line with ten bad stations, which tell stations 11 to 21 a zero and 22 to 32 a one: the sender, and in eight phases all ten in the
+    exchange and the king. Then they are garbled."""
+    low, high, bad, phases = range(11, 22), range(22, 33), range(1, 11), range(1, 9)
+    exchanges = [r for p in phases for r in (3 * p - 1, 3 * p)]
+    divided = [([1], [7])] + [(exchanges, bad)] + [([3 * p + 1], [p]) for p in phases]
+    records = [(r, i, j, bit) for rounds, froms in divided for bit, tos in ((0, low), (1, high)) for r in rounds for i in froms for j in tos]
+    return sheet_of(32, 10, 10, 7, 1, bad, records + [(26, i, j, 77) for i in bad for j in range(1, 33)])
+
+
+def longest_sheet():
+    """4,096 records, chained in another order than that of the file."""
+    bad = range(1, 11)
+    records = [(r, i, j, (r + j) % 4) for r in range(1, 37) for i in bad for j in range(1, 33)][:4096]
     return sheet_of(32, 10, 10, 7, 1, bad, shuffled(records, 1), shuffled(range(1, 4097), 2))
 
 
 def sheets():
     told = [(1, 4, 1, 1), (1, 4, 2, 0), (1, 4, 3, 0)]
-    both = [(r, 1, j, j - 2) for r in (1, 2, 3, 5, 6) for j in (2, 3)]
+    both = [(r, 1, j, j - 2) for j in (2, 3) for r in (1, 2, 3, 5, 6)]
     return {
         "a": sheet_of(4, 1, 1, 1, 1, [4], []),
         "b": sheet_of(4, 0, 1, 4, 0, [4], told),
@@ -94,8 +99,8 @@ def odd_inputs():
     """Inputs that are no sheets by their length, the longest sheet, and a sheet for each later cause."""
     a = sheet_of(4, 1, 1, 1, 1, [4], [])
     one = sheet_of(4, 1, 1, 1, 1, [4], [(1, 4, 1, 1)])
-    longest = large()
-    inputs = {"empty": b"", "one byte": b"\4", "eleven bytes": a[:11], "thirteen bytes": a + b"\0", "nineteen bytes": one[:19]}
+    longest = longest_sheet()
+    inputs = {"the longest sheet": longest, "empty": b"", "one byte": b"\4", "eleven bytes": a[:11], "thirteen bytes": a + b"\0", "nineteen bytes": one[:19]}
     inputs |= {"a byte too long": longest + b"\0", "a record too long": longest + bytes(8), "very long": longest * 4, "zeros": bytes(12)}
     inputs |= {"all ones": b"\xff" * 12, "n 33": b"\x21" + a[1:], "T 2": a[:2] + b"\2" + a[3:], "sender 5": a[:3] + b"\5" + a[4:]}
     inputs |= {"value 2": a[:4] + b"\2" + a[5:], "mark 5": a[:8] + b"\x10" + a[9:], "byte 5": a[:5] + b"\1" + a[6:], "first 1": a[:6] + b"\1" + a[7:]}
@@ -121,30 +126,39 @@ def write():
     for name, sheet in sheets().items():
         with open(os.path.join(EXAMPLES, name + ".sheet"), "wb") as file:
             file.write(sheet)
-        with open(os.path.join(EXAMPLES, name + ".txt"), "w") as file:
+        with open(os.path.join(EXAMPLES, name + ".listing"), "w") as file:
             file.write(listing(sheet))
+
+
+def made_of(command, file):
+    return subprocess.run([os.path.join(TOP, command), file], capture_output=True).stdout
+
+
+def texts():
+    """Each example's text gives its sheet, and the sheet's text in the normal form gives it back."""
+    for name, sheet in sheets().items():
+        yield f"{name}: the text gives the sheet", made_of("sheet", os.path.join(EXAMPLES, name + ".text")) == sheet
+        text = made_of("text", os.path.join(EXAMPLES, name + ".sheet"))
+        done = subprocess.run([os.path.join(TOP, "sheet")], input=text, capture_output=True)
+        yield f"{name}: its text in the normal form gives the sheet", done.stdout == sheet
 
 
 def checks():
     """A name and whether it holds, for each."""
+    expected = {name + end for name in sheets() for end in (".sheet", ".listing", ".text")}
+    yield "examples/ has these and no others", {file for file in os.listdir(EXAMPLES) if not file.endswith(".svg")} == expected
     for name, made in sheets().items():
-        sheet, text = (read(os.path.join(EXAMPLES, name + end)) for end in (".sheet", ".txt"))
+        sheet, text = (read(os.path.join(EXAMPLES, name + end)) for end in (".sheet", ".listing"))
         yield f"{name}: the sheet is the one made here", sheet == made
         yield f"{name}: the listing is the model's", text.decode() == listing(sheet)
         yield f"{name}: the program prints it", printed(sheet) == text
-    yield f"longest: the listing has {LONGEST_LISTING} bytes", len(read(os.path.join(EXAMPLES, "longest.txt"))) == LONGEST_LISTING
+    yield f"longest: the listing has {LONGEST_LISTING} bytes", len(read(os.path.join(EXAMPLES, "longest.listing"))) == LONGEST_LISTING
     for name, sheet in odd_inputs().items():
         expected = listing(sheet)
         yield f"{name}: {expected.split(chr(10))[0]}", printed(sheet) == expected.encode()
-    sheet, text = (read(os.path.join(EXAMPLES, "a" + end)) for end in (".sheet", ".txt"))
-    done = subprocess.run([COMMAND], input=sheet, capture_output=True)
-    yield "./agree prints case A", (done.returncode, done.stdout, done.stderr) == (0, text, b"")
-    with open("/dev/full", "wb") as full:
-        done = subprocess.run([COMMAND], input=sheet, stdout=full, stderr=subprocess.PIPE)
-    yield "./agree tells what can't be written", done.returncode == 1 and b"could not be written" in done.stderr
 
 
 if __name__ == "__main__":
     if sys.argv[1:] == ["--check"]:
-        sys.exit(not (built(pathlib.Path(PROGRAM)) and closing(checks())))
+        sys.exit(not (built(pathlib.Path(PROGRAM)) and closing([*checks(), *texts()])))
     write()

@@ -1,6 +1,6 @@
 //! Commands on run sheets.
 
-use std::io::{self, Read, Write};
+use std::io::{self, IsTerminal, Read, Write};
 use std::process::ExitCode;
 
 use peer::draw::draw;
@@ -16,6 +16,7 @@ usage: peer listing [SHEET]    the listing of a run sheet
        peer draw [SHEET]       a drawing of the run, as SVG
        peer runs [RUNS]        what the program of crate runs must print of stored runs
 A file that isn't named is read from standard input. What is made goes to standard output.
+Exit status: 0 if it is made, 1 if the sheet is refused or the text is wrong, 2 for any other trouble.
 
 Built with the feature verified:
        peer compare [SEED] [TURNS]    the verified calls compared with this program's answers
@@ -27,6 +28,10 @@ fn main() -> ExitCode {
     let words: Vec<String> = std::env::args().skip(1).collect();
     let Some((command, rest)) = words.split_first() else { return usage() };
     match command.as_str() {
+        "--help" | "-h" => {
+            println!("{USAGE}");
+            ExitCode::SUCCESS
+        }
         "compare" => verified::compare(rest).unwrap_or_else(usage),
         "fuzz" => verified::fuzz(rest).unwrap_or_else(usage),
         "bench" => verified::bench(rest).unwrap_or_else(usage),
@@ -34,9 +39,10 @@ fn main() -> ExitCode {
     }
 }
 
-/// Runs a command that makes something of a file. None where there is no such command.
+/// Runs a command that makes something of a file. None where there is no such command, or nothing to read but what a person types.
 fn make(command: &str, rest: &[String]) -> Option<ExitCode> {
     let file = match rest {
+        [] if io::stdin().is_terminal() => return None,
         [] => None,
         [file] => Some(file.as_str()),
         _ => return None,
@@ -49,13 +55,34 @@ fn make(command: &str, rest: &[String]) -> Option<ExitCode> {
         "runs" => make_runs(file),
         _ => return None,
     };
-    Some(match made.and_then(|bytes| print(&bytes)) {
-        Ok(()) => ExitCode::SUCCESS,
-        Err(message) => {
-            eprintln!("peer: {message}");
-            ExitCode::FAILURE
-        }
+    let ended = made.and_then(|made| print(&made.bytes).map(|()| made.refused));
+    Some(match ended {
+        Ok(None) => ExitCode::SUCCESS,
+        Ok(Some(refusal)) => told(command, &refusal, 1),
+        Err(trouble) => told(command, &trouble, 2),
     })
+}
+
+/// What a command makes of its file, and why it is refused, if it is.
+struct Made {
+    bytes: Vec<u8>,
+    refused: Option<String>,
+}
+
+impl Made {
+    fn whole(bytes: impl Into<Vec<u8>>) -> Made {
+        Made { bytes: bytes.into(), refused: None }
+    }
+
+    fn refused(refusal: String) -> Made {
+        Made { bytes: vec![], refused: Some(refusal) }
+    }
+}
+
+/// Says on standard error why a command ends with this status.
+fn told(command: &str, why: &str, status: u8) -> ExitCode {
+    eprintln!("{command}: {why}");
+    ExitCode::from(status)
 }
 
 /// The commands on the verified implementation. None where the words after the command are wrong.
@@ -131,30 +158,35 @@ fn usage() -> ExitCode {
     ExitCode::from(2)
 }
 
-fn make_listing(file: Option<&str>) -> Result<Vec<u8>, String> {
-    Ok(listing(&read_sheet(file)?).into_bytes())
+fn make_listing(file: Option<&str>) -> Result<Made, String> {
+    let sheet = read_sheet(file)?;
+    let refused = run(&sheet).err().map(|cause| refusal(file, cause));
+    Ok(Made { bytes: listing(&sheet).into_bytes(), refused })
 }
 
-fn make_sheet(file: Option<&str>) -> Result<Vec<u8>, String> {
+fn make_sheet(file: Option<&str>) -> Result<Made, String> {
     let bytes = read_at_most(file, u64::MAX)?;
-    text::to_sheet(&String::from_utf8_lossy(&bytes)).map_err(|error| format!("{}: {error}", name(file)))
+    Ok(match text::to_sheet(&String::from_utf8_lossy(&bytes)) {
+        Ok(sheet) => Made::whole(sheet),
+        Err(error) => Made::refused(format!("{}: {error}", name(file))),
+    })
 }
 
-fn make_text(file: Option<&str>) -> Result<Vec<u8>, String> {
-    let made = text::of_sheet(&read_sheet(file)?).map_err(|cause| refused(file, cause))?;
-    Ok(made.into_bytes())
+fn make_text(file: Option<&str>) -> Result<Made, String> {
+    let made = text::of_sheet(&read_sheet(file)?);
+    Ok(made.map_or_else(|cause| Made::refused(refusal(file, cause)), Made::whole))
 }
 
-fn make_drawing(file: Option<&str>) -> Result<Vec<u8>, String> {
-    let run = run(&read_sheet(file)?).map_err(|cause| refused(file, cause))?;
-    Ok(draw(&run).into_bytes())
+fn make_drawing(file: Option<&str>) -> Result<Made, String> {
+    let made = run(&read_sheet(file)?).map(|run| draw(&run));
+    Ok(made.map_or_else(|cause| Made::refused(refusal(file, cause)), Made::whole))
 }
 
-fn make_runs(file: Option<&str>) -> Result<Vec<u8>, String> {
-    Ok(runs(&read_at_most(file, u64::MAX)?).into_bytes())
+fn make_runs(file: Option<&str>) -> Result<Made, String> {
+    Ok(Made::whole(runs(&read_at_most(file, u64::MAX)?)))
 }
 
-fn refused(file: Option<&str>, cause: Cause) -> String {
+fn refusal(file: Option<&str>, cause: Cause) -> String {
     format!("{}: refused {}: {}", name(file), cause.number(), cause.words())
 }
 

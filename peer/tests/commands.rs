@@ -19,18 +19,14 @@ fn peer(words: &[&str], fed: &[u8]) -> (i32, Vec<u8>, String) {
     (output.status.code().unwrap(), output.stdout, said)
 }
 
-fn listed(fed: &[u8]) -> String {
-    let (status, printed, said) = peer(&["listing"], fed);
-    assert_eq!((status, said.as_str()), (0, ""));
-    String::from_utf8(printed).unwrap()
-}
-
 #[test]
 fn listing() {
-    assert_eq!(listed(&CASE_A), CASE_A_LISTING);
-    assert_eq!(listed(&CASE_A[..11]), "refused 1\n");
-    assert_eq!(listed(&[]), "refused 1\n");
-    assert_eq!(listed(&[0; 100_000]), "refused 1\n");
+    assert_eq!(peer(&["listing"], &CASE_A), (0, CASE_A_LISTING.as_bytes().to_vec(), String::new()));
+    for fed in [&CASE_A[..11], &[], &[0; 100_000]] {
+        let (status, printed, said) = peer(&["listing"], fed);
+        assert_eq!((status, printed.as_slice()), (1, &b"refused 1\n"[..]));
+        assert!(said.starts_with("listing: standard input: refused 1: the sheet's length is not 12 + 8k "));
+    }
 }
 
 #[test]
@@ -42,7 +38,7 @@ fn sheet_and_text() {
 #[test]
 fn a_wrong_text() {
     let wrong = format!("{CASE_A_TEXT}round 1 from 4 to 9 ballot 1\n");
-    let said = "peer: standard input: line 7: station 9 is beyond n 4\n".to_string();
+    let said = "sheet: standard input: line 7: station 9 is beyond n 4\n".to_string();
     assert_eq!(peer(&["sheet"], wrong.as_bytes()), (1, vec![], said));
 }
 
@@ -50,9 +46,10 @@ fn a_wrong_text() {
 fn refused_sheets() {
     let mut sheet = CASE_A;
     sheet[6] = 1;
-    let said = "peer: standard input: refused 9: the chain reaches an index above k\n".to_string();
-    assert_eq!(peer(&["text"], &sheet), (1, vec![], said.clone()));
-    assert_eq!(peer(&["draw"], &sheet), (1, vec![], said));
+    for command in ["text", "draw"] {
+        let said = format!("{command}: standard input: refused 9: the chain reaches an index above k\n");
+        assert_eq!(peer(&[command], &sheet), (1, vec![], said));
+    }
 }
 
 /// Case A with its table, then with one that is too short, then a run whose sheet ends too early.
@@ -87,8 +84,25 @@ fn files() {
     let name = file.to_str().unwrap();
     assert_eq!(peer(&["listing", name], &[]), (0, CASE_A_LISTING.as_bytes().to_vec(), String::new()));
     let (status, printed, said) = peer(&["listing", "no such file"], &CASE_A);
-    assert_eq!((status, printed), (1, vec![]));
-    assert!(said.starts_with("peer: no such file: "));
+    assert_eq!((status, printed), (2, vec![]));
+    assert!(said.starts_with("listing: no such file: "));
+}
+
+/// A failed read is no sheet: a folder can be opened and not read.
+#[test]
+fn what_cannot_be_read_or_written() {
+    for command in ["listing", "sheet", "text", "draw", "runs"] {
+        let (status, printed, said) = peer(&[command, env!("CARGO_TARGET_TMPDIR")], &[]);
+        assert_eq!((status, printed), (2, vec![]));
+        assert!(said.starts_with(&format!("{command}: ")) && said.ends_with("(os error 21)\n"));
+    }
+    let full = std::fs::File::create("/dev/full").unwrap();
+    let mut command = Command::new(env!("CARGO_BIN_EXE_peer"));
+    let file = std::path::Path::new(env!("CARGO_TARGET_TMPDIR")).join("case-a-text");
+    std::fs::write(&file, CASE_A_TEXT).unwrap();
+    let output = command.arg("sheet").arg(file).stdout(full).output().unwrap();
+    assert_eq!(output.status.code(), Some(2));
+    assert!(String::from_utf8(output.stderr).unwrap().starts_with("sheet: standard output: "));
 }
 
 #[test]
@@ -98,6 +112,9 @@ fn usage() {
         assert_eq!((status, printed), (2, vec![]));
         assert!(said.starts_with("usage: peer listing"));
     }
+    let (status, printed, said) = peer(&["--help"], &[]);
+    assert_eq!((status, said.as_str()), (0, ""));
+    assert!(printed.starts_with(b"usage: peer listing"));
 }
 
 #[cfg(not(feature = "verified"))]

@@ -1,0 +1,318 @@
+#!/usr/bin/env python3
+"""The commands at the repository's top, as a planner uses them: what they write, where, and their exit status; what they do without input or output, on a
+terminal, when they are interrupted; and how they build what they run, tried with made-up tools. The last line is 'N passed, M failed'.
+"""
+import contextlib
+import os
+import pathlib
+import pty
+import re
+import shutil
+import signal
+import subprocess
+import sys
+import tempfile
+import time
+
+import examples
+from counting import built, closing
+
+TOP = pathlib.Path(__file__).resolve().parent.parent
+AGREE, LISTING = TOP / "examples" / "a.sheet", (TOP / "examples" / "a.listing").read_bytes()
+COMMANDS = "agree", "sheet", "text", "draw"
+# a command that hasn't ended after so many seconds hangs
+HANGS = 120
+
+
+class Ran:
+    """How a command ended: its status, and what it wrote to standard output and standard error."""
+
+    def __init__(self, *words, top=TOP, **streams):
+        streams = {"stdin": subprocess.DEVNULL, "stdout": subprocess.PIPE, "stderr": subprocess.PIPE} | streams
+        if "input" in streams:
+            del streams["stdin"]
+        try:
+            done = subprocess.run([f"./{words[0]}", *map(str, words[1:])], cwd=top, timeout=HANGS, **streams)
+            self.status, self.out, self.said = done.returncode, done.stdout, (done.stderr or b"").decode()
+        except subprocess.TimeoutExpired:
+            self.status, self.out, self.said = "hangs", b"", ""
+
+    def gives(self, status, out=b"", said=""):
+        """Whether it ended so; `said` is a pattern for the whole of standard error."""
+        return (self.status, self.out) == (status, out) and re.fullmatch(said, self.said) is not None
+
+
+def in_shell(words, top=TOP, **streams):
+    """A command with its streams as a shell sets them."""
+    return subprocess.run(["bash", "-c", words], cwd=top, timeout=HANGS, capture_output=True, **streams)
+
+
+def causes():
+    """The causes in words, by their numbers, as the commands tell them."""
+    return dict(row.split(" ", 1) for row in (TOP / "commands" / "causes").read_text().splitlines())
+
+
+# ---- what a command makes of its input
+
+
+def inputs(folder):
+    odd = folder / "-a & b: c.sheet"
+    shutil.copy(AGREE, odd)
+    os.symlink(TOP / "agree", folder / "linked")
+    yield "a file", Ran("agree", AGREE).gives(0, LISTING)
+    yield "standard input", Ran("agree", input=AGREE.read_bytes()).gives(0, LISTING)
+    yield "standard input as -", Ran("agree", "-", input=AGREE.read_bytes()).gives(0, LISTING)
+    yield "a pipe by its name", in_shell(f"./agree <(cat '{AGREE}')").stdout == LISTING
+    yield "a name with signs in it", Ran("linked", "--", odd.name, top=folder).gives(0, LISTING)
+    yield "a sheet in a pipe that comes in two parts", in_shell(f"(head -c 5; sleep 0.3; cat) <'{AGREE}' | ./agree").stdout == LISTING
+    odd.write_bytes(AGREE.read_bytes()[:11])
+    yield "and what is said of it", Ran("linked", odd, top=folder).gives(1, b"refused 1\n", f"agree: {re.escape(str(odd))}: refused 1: .*\n")
+
+
+def refusals(folder):
+    """Each cause that a sheet can have: the number to standard output, and the cause in words to standard error."""
+    told, file = causes(), folder / "refused.sheet"
+    for name, sheet in examples.odd_inputs().items():
+        listing = examples.listing(sheet).encode()
+        if listing.startswith(b"refused "):
+            number = listing.split()[1].decode()
+            file.write_bytes(sheet)
+            said = re.escape(f"agree: {file}: refused {number}: {told[number]}\n")
+            yield f"refused: {name}", Ran("agree", file).gives(1, listing, said)
+            for command in "text", "draw":
+                yield f"{command}, refused: {name}", Ran(command, file).gives(1, b"", rf"{command}: {re.escape(str(file))}: refused {number}: .+\n")
+    file.write_text("n 4\nt 1\nT 1\nsender 1\nvalue 1\nbad 9\n")
+    yield "a wrong text", Ran("sheet", file).gives(1, b"", f"sheet: {re.escape(str(file))}: line 6: station 9 is beyond n 4\n")
+
+
+def documented():
+    rows = dict(re.findall(r"^\| (\d+) \| (.*) \|$", (TOP / "README.md").read_text(encoding="utf-8"), re.M))
+    yield "README.md has the causes in the same words", rows == causes()
+    yield "as many causes as document 01 has", [int(number) for number in causes()] == list(range(1, 14))
+
+
+# ---- trouble with the streams
+
+
+@contextlib.contextmanager
+def unready(content):
+    """A pipe with these bytes in it that isn't closed and doesn't wait for more."""
+    read, write = os.pipe()
+    os.write(write, content)
+    os.set_blocking(read, False)
+    yield read
+    os.close(read)
+    os.close(write)
+
+
+def troubles(folder):
+    sheet = AGREE.read_bytes()
+    for command in COMMANDS:
+        yield f"{command}: no such file", Ran(command, folder / "none").gives(2, b"", f"{command}: .*/none: No such file or directory\n")
+        yield f"{command}: a folder", Ran(command, folder).gives(2, b"", f"{command}: {folder}: Is a directory\n")
+        opened = os.open(folder, os.O_RDONLY)
+        yield f"{command}: a folder as input", Ran(command, stdin=opened).gives(2, b"", f"{command}: standard input: Is a directory\n")
+        os.close(opened)
+        done = in_shell(f"./{command} <&-")
+        yield f"{command}: no input", (done.returncode, done.stdout, done.stderr) == (2, b"", f"{command}: standard input is closed\n".encode())
+        done = in_shell(f"./{command} '{AGREE}' >&-")
+        yield f"{command}: no output", (done.returncode, done.stderr) == (2, f"{command}: standard output is closed\n".encode())
+        with unready(sheet[:5]) as waits:
+            yield f"{command}: an input that isn't ready after half a sheet", Ran(command, stdin=waits).gives(2, b"", f"{command}: standard input.*\n")
+    with unready(b"") as waits:
+        yield "an input that isn't ready", Ran("agree", stdin=waits).gives(2, b"", "agree: standard input could not be read\n")
+    with open("/dev/full", "wb") as full:
+        yield "a full output", Ran("agree", AGREE, stdout=full).gives(2, None, "agree: standard output: No space left on device\n")
+    yield "an output that nobody reads", in_shell(f"./agree '{AGREE}' | true; exit ${{PIPESTATUS[0]}}").returncode == 128 + signal.SIGPIPE
+    yield "a file, and no input", in_shell(f"./agree '{AGREE}' <&-").stdout == LISTING
+    yield "no standard error", in_shell(f"./agree '{AGREE}' 2>&-").stdout == LISTING
+    yield "no temporary folder", Ran("agree", AGREE, env=os.environ | {"TMPDIR": "/nowhere"}).gives(2, b"", "agree: no temporary folder can be made in /nowhere\n")
+
+
+# ---- on a terminal, and how it is used
+
+
+def on_terminal(words, top=TOP, env=None, streams=("stdin", "stdout", "stderr")):
+    """Status of a command with these streams on a terminal, and all that it writes there."""
+    near, far = pty.openpty()
+    given = {name: far if name in streams else subprocess.DEVNULL for name in ("stdin", "stdout", "stderr")}
+    running = subprocess.Popen(words, cwd=top, env=env, start_new_session=True, **given)
+    os.close(far)
+    shown = b""
+    with contextlib.suppress(OSError):
+        while part := os.read(near, 4096):
+            shown += part
+    os.close(near)
+    return running.wait(timeout=HANGS), shown.decode()
+
+
+def uses():
+    for command in COMMANDS:
+        usage = rf"usage: ./{command} \[[A-Z]+\]\n(?s:.*)Exit status: 0 (?s:.*)"
+        asked = Ran(command, "--help")
+        yield f"{command} --help", asked.status == 0 and re.fullmatch(usage, asked.out.decode()) and not asked.said
+        yield f"{command}: an unknown option", Ran(command, "-x").gives(2, b"", f"{command}: there is no option -x\n{usage}")
+        yield f"{command}: two files", Ran(command, AGREE, AGREE).gives(2, b"", f"{command}: one file at most\n{usage}")
+        yield f"{command}: an empty name", Ran(command, "").gives(2, b"", f"{command}: the file's name is empty\n{usage}")
+        status, shown = on_terminal([f"./{command}"], streams=("stdin", "stderr"))
+        yield f"{command}: a terminal as input", status == 2 and re.fullmatch(usage, shown.replace("\r\n", "\n"))
+    status, shown = on_terminal(["./sheet", "examples/a.text"])
+    yield "sheet: a terminal as output", status == 2 and "sheet: a run sheet is bytes" in shown and "\0" not in shown
+    status, shown = on_terminal(["./agree", "examples/a.sheet"])
+    yield "agree: a listing on a terminal", (status, shown.replace("\r\n", "\n").encode()) == (0, LISTING)
+
+
+# ---- building, with a made-up rt in a copy of the commands
+
+
+RT = """#!/bin/sh
+echo "$@" >>"$RT_CALLS"
+case $RT_DOES in
+fails) echo "rt: station NOT PROVED (exit 1, 3 s)"; exit 1 ;;
+waits) sh -c 'echo $$ >>"$RT_CALLS.pids"; exec sleep 600' & echo $$ >>"$RT_CALLS.pids"; wait ;;
+esac
+for crate in line broadcast sheet; do echo "rt: $crate proved (1 s)"; [ "$RT_DOES" = quick ] || sleep 0.8; done
+mkdir -p target/bin && printf '%s\\n' '#!/bin/sh' 'cat >/dev/null; echo built' >target/bin/agree && chmod +x target/bin/agree
+"""
+
+
+class Copy:
+    """A copy of the commands and the crates, nothing of it built, beside a tool rt that only pretends."""
+
+    def __init__(self, folder, does=""):
+        self.top, tools = folder / "copy of the tree", folder / "tools"
+        self.top.mkdir(parents=True)
+        tools.mkdir()
+        for part in "commands", "crates":
+            shutil.copytree(TOP / part, self.top / part)
+        for part in "agree", "crates.txt":
+            shutil.copy(TOP / part, self.top / part)
+        (tools / "rt").write_text(RT)
+        (tools / "rt").chmod(0o755)
+        self.calls = folder / "calls"
+        self.calls.touch()
+        (folder / "tmp").mkdir()
+        self.temporary = folder / "tmp"
+        path = f"{tools}:{os.environ['PATH']}"
+        self.env = os.environ | {"PATH": path, "RT_CALLS": str(self.calls), "RT_DOES": does, "TMPDIR": str(self.temporary)}
+
+    def agree(self, **streams):
+        return Ran("agree", AGREE, top=self.top, env=self.env, **streams)
+
+    def called(self):
+        return self.calls.read_text().splitlines()
+
+    def left(self):
+        return list(self.temporary.iterdir())
+
+
+def building(folder):
+    copy = Copy(folder / "first")
+    first = copy.agree()
+    steps = [f"agree: target/bin/agree isn't built yet: {k} of 8 crates proved" in first.said for k in (1, 2, 3)]
+    yield "the first use builds the program, and says how far it is", first.status == 0 and first.out == b"built\n" and all(steps)
+    copy.env["RT_DOES"] = "quick"
+    yield "and what it has built", re.search(r"agree: built in \d+ s: [0-9a-f]{64}  target/bin/agree\n$", first.said)
+    yield "the second doesn't", copy.agree().gives(0, b"built\n") and copy.called() == ["check agree"]
+    os.utime(copy.top / "crates" / "runs" / "stdin")
+    yield "nor where a crate has changed that it doesn't use", copy.agree().gives(0, b"built\n") and copy.called() == ["check agree"]
+    os.utime(copy.top / "crates" / "line" / "src" / "lib.rt")
+    again = copy.agree()
+    yield "a program older than its crates is built again", again.out == b"built\n" and "is older than its sources: " in again.said and len(copy.called()) == 2
+    (copy.top / "crates" / "sheet" / "specs" / "Chain.antt").unlink()
+    yield "also where a file is gone", copy.agree().out == b"built\n" and len(copy.called()) == 3
+    yield "nothing temporary is left", copy.left() == []
+    status, shown = on_terminal(["./agree", str(AGREE)], top=Copy(folder / "shown").top, env=copy.env | {"RT_DOES": ""})
+    lines = re.findall(r"\ragree: target/bin/agree isn't built yet: (\d) of 8 crates proved [^\r\n]*, \d+ s\x1b\[K", shown)
+    yield "on a terminal it is one line, kept up to date", status == 0 and list(dict.fromkeys(lines)) == ["1", "2", "3"] and shown.count("\n") == 2
+
+
+def failing(folder):
+    copy = Copy(folder / "fails", "fails")
+    log = copy.top / "target" / "commands" / "agree.log"
+    said = re.escape(f"agree: target/bin/agree can't be built; {log} says why\n")
+    yield "a build that fails", copy.agree().gives(2, b"", f"(agree: target.*\n)?{said}") and "station NOT PROVED" in log.read_text()
+    (folder / "fails" / "tools" / "rt").unlink()
+    copy.env["PATH"] = without_rt(folder)
+    yield "no rt", copy.agree().gives(2, b"", 'agree: target/bin/agree can\'t be built: rt is not on the PATH \\(README.md, "What it needs"\\)\n')
+    yield "nothing temporary is left by it", copy.left() == []
+
+
+def without_rt(folder):
+    """A PATH of one folder that has the tools of the commands, and no rt."""
+    tools = folder / "few tools"
+    tools.mkdir()
+    for tool in "bash env dirname readlink sed awk grep find touch mktemp rm mkdir cat sleep flock sha256sum".split():
+        os.symlink(shutil.which(tool), tools / tool)
+    return str(tools)
+
+
+def running(pid):
+    """Whether a process is there and doesn't merely wait to be reaped."""
+    with contextlib.suppress(OSError):
+        return "\nState:\tZ" not in pathlib.Path(f"/proc/{pid}/status").read_text()
+    return False
+
+
+def until(holds, seconds=60):
+    for _ in range(10 * seconds):
+        if holds():
+            return True
+        time.sleep(0.1)
+    return False
+
+
+def interrupted(folder, number):
+    """A command that a signal ends while it builds: it ends by that signal, and leaves neither the tool nor what that has started."""
+    copy = Copy(folder / f"signal {number}", "waits")
+    pids = pathlib.Path(f"{copy.calls}.pids")
+    command = subprocess.Popen(["./agree", AGREE], cwd=copy.top, env=copy.env, stderr=subprocess.DEVNULL)
+    started = until(lambda: pids.exists() and len(pids.read_text().split()) == 2)
+    command.send_signal(number)
+    with contextlib.suppress(subprocess.TimeoutExpired):
+        command.wait(timeout=HANGS)
+    ended = started and until(lambda: not any(running(pid) for pid in pids.read_text().split()))
+    return ended and command.returncode == -number and copy.left() == []
+
+
+def interrupts(folder):
+    for number in signal.SIGINT, signal.SIGTERM, signal.SIGHUP:
+        yield f"{number.name} while it builds", interrupted(folder, number)
+
+
+def at_once(folder):
+    """Two first uses at once: one builds, the other waits for it."""
+    copy = Copy(folder / "twice")
+    both = [subprocess.Popen(["./agree", AGREE], cwd=copy.top, env=copy.env, stdout=subprocess.PIPE, stderr=subprocess.PIPE) for _ in range(2)]
+    ended = [one.communicate(timeout=HANGS) for one in both]
+    said = b"".join(said for _, said in ended)
+    outs = [out for out, _ in ended]
+    yield "two first uses at once build once", outs == [b"built\n"] * 2 and copy.called() == ["check agree"] and b"waiting for another command that builds" in said
+
+
+# ---- README.md's block
+
+
+def pasted(folder):
+    """The block of README.md from a text to a picture, pasted whole into a shell."""
+    block = re.search(r"## From a text to a picture\n.*?```\n(.*?)```", (TOP / "README.md").read_text(encoding="utf-8"), re.S).group(1)
+    for command in COMMANDS:
+        os.symlink(TOP / command, folder / command)
+    done = in_shell(block, top=folder)
+    made = {name: (folder / f"line.{name}").read_bytes() for name in ("text", "sheet", "svg")}
+    yield "README.md's block prints case A's listing", (done.returncode, done.stdout, done.stderr) == (0, LISTING, b"")
+    yield "and makes its sheet", made["sheet"] == AGREE.read_bytes()
+    yield "and its picture", made["svg"].startswith(b"<svg ") and made["svg"].endswith(b"</svg>\n")
+
+
+def checks():
+    trials = [inputs, refusals, troubles, building, failing, interrupts, at_once, pasted]
+    for trial in trials:
+        with tempfile.TemporaryDirectory() as folder:
+            yield from trial(pathlib.Path(folder).resolve())
+    yield from documented()
+    yield from uses()
+
+
+if __name__ == "__main__":
+    sys.exit(not (built(TOP / "target" / "bin" / "agree") and Ran("draw", AGREE).status == 0 and closing(checks())))
