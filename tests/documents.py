@@ -2,7 +2,7 @@
 """Names in the documents are names of the repository.
 
 Every path and every definition, statement, function or file that a document sets in backticks is there, and those that
-docs/PROMISES.md lays beside the papers stand in the file that it names; every wrong program that it names is there, and
+docs/AUDIT.md lays beside the papers stand in the file that it names; every wrong program that it names is there, and
 every one that is there is named. Prints what fails, then 'N passed, M failed'.
 """
 import pathlib
@@ -13,7 +13,7 @@ import sys
 from counting import closing
 
 TOP = pathlib.Path(__file__).resolve().parent.parent
-DOCUMENTS = ["README.md", "docs/PROMISES.md", "docs/DECISIONS.md", "controller/README.md", "peer/README.md", "vectors/README.md"]
+DOCUMENTS = ["README.md", "docs/PROMISES.md", "docs/AUDIT.md", "docs/DECISIONS.md", "controller/README.md", "peer/README.md", "vectors/README.md"]
 WORD = re.compile(r"[\w\-′]+")
 NAME = re.compile(r"[A-Za-z_][\w\-′]*(::[A-Za-z_]\w*)*\Z")
 PATH = re.compile(r"[\w.*\-]*/[\w./*\-]+\Z")
@@ -52,7 +52,7 @@ def names(known):
 
 def definitions():
     """A definition of the table "Beside the papers" and whether it stands in the file that its row names."""
-    table = (TOP / "docs/PROMISES.md").read_text(encoding="utf-8").split("## Beside the papers", 1)[1].split("\n## ", 1)[0]
+    table = (TOP / "docs/AUDIT.md").read_text(encoding="utf-8").split("## Beside the papers", 1)[1].split("\n## ", 1)[0]
     folders = dict((letter, folder) for folder, letter in re.findall(r"`(crates/\w+/specs)/` \((\w)\)", table))
     for row in re.findall(r"^\|.*\| (.*) \| (\w \w+(?:, \w \w+)*) \|$", table, re.M):
         files = [f"{folders[place[0]]}/{place[2:]}.antt" for place in row[1].split(", ")]
@@ -62,8 +62,8 @@ def definitions():
 
 
 def edits():
-    """The wrong programs of the tables of docs/PROMISES.md beside the files."""
-    text = (TOP / "docs/PROMISES.md").read_text(encoding="utf-8")
+    """The wrong programs of the tables of docs/AUDIT.md beside the files."""
+    text = (TOP / "docs/AUDIT.md").read_text(encoding="utf-8")
     tables = text.split("All of them, by the call", 1)[1].split("\n## ", 1)[0]
     cells = [row.split("|", 2)[2] for row in tables.splitlines() if row.startswith("| ")]
     told = {(name, star == "*") for cell in cells for name, star in EDIT.findall(cell)}
@@ -71,7 +71,7 @@ def edits():
     there |= {(path.stem, True) for path in TOP.glob("tests/wrong/*/*.edit")}
     for name, star in sorted(told | there):
         where = "tests/wrong" if star else "crates/*/must-fail"
-        yield f"wrong program {name}: in docs/PROMISES.md and in {where}", (name, star) in told and (name, star) in there
+        yield f"wrong program {name}: in docs/AUDIT.md and in {where}", (name, star) in told and (name, star) in there
 
 
 if __name__ == "__main__":
