@@ -2,10 +2,12 @@
 use Prim.Native.Nat.{ℕ, zero, suc, _+_, _≤_, _<_}
 use mathlib.Core.Path.{_≡_, refl, sym, ap, _∙_}
 use mathlib.Core.Logic.{_⊎_, inl, inr}
-use mathlib.Core.Bool.{false}
+use mathlib.Core.Bool.{Bool, true, false}
 use native.Mathlib.Omega.{arith}
 use native.Mathlib.Decide.{le-ind}
 use native.Mathlib.Nat.{lt-of-not-le, le-of-eq, le-antisymm, eq-zero-or-pos}
+use borrow.Author.Tests.{eqb-true, eqb-false}
+use lib.Dec.{eqb}
 use Rattle.line.specs.Line.{Fits}
 use Rattle.line.specs.Ballot.{read-sender}
 use Rattle.line.proofs.CountLaws.{widen, witness}
@@ -13,6 +15,7 @@ use Rattle.line.proofs.BallotLaws.{read-sender-bit, read-sender-keeps}
 use Rattle.broadcast.specs.Exchange.{Setting, sends, flag-of}
 use Rattle.broadcast.specs.Broadcast.{obey, phases, first-round, x-after, y-after, grade-after, value-of, final-grade, final-flag}
 use Rattle.broadcast.specs.Guarantees.{Good, GradedConsensus, TwoThreshold}
+use Rattle.broadcast.specs.Theorems.{Unflagged-agree}
 use Rattle.broadcast.proofs.TallyLaws.{flag-means, flag-bit, obey-means, obey-bit, obey-king}
 use Rattle.broadcast.proofs.ExchangeLaws.{faults-of, All, good-sends, y-is-bit, graded-consensus}
 
@@ -120,3 +123,11 @@ module _ (S : Setting) (fits : Fits (S .n) (S .t) (S .T)) (sender-from-0 value :
         ∙ flag-means _ .0 (lt-of-not-le (λ h. differ (bound-by f k gk h i gi ∙ sym (bound-by f k gk h j gj))));
     flag-soundness = λ i gi e. lt-of-not-le (λ f. omega (arith, quiet f i gi));
   }
+
+-- two good stations that decide differently would have the quiet one raise its flag
+pub unflagged-agree : Unflagged-agree
+unflagged-agree n t T bad s v D F P f k gk quiet i j gi gj = go (eqb (D i) (D j)) refl
+  where
+    go : (same : Bool) → eqb (D i) (D j) ≡ same → D i ≡ D j
+    go true e = eqb-true (D i) (D j) e
+    go false e = absurd (quiet (P .consistency-detection f i j gi gj (eqb-false (D i) (D j) e) k gk))

@@ -144,7 +144,7 @@ same-consensus n t T bad x y g y′ g′ ey eg C = record {
   detection = λ f i h l j k. rw (ey i h, ey j k) (C .detection f i h (rw (eg i h) at l) j k);
 }
 
-same-two-threshold : (n t T : ℕ) (bad : ℕ → Bool) (s v : ℕ) (D F D′ F′ : ℕ → ℕ)
+pub same-two-threshold : (n t T : ℕ) (bad : ℕ → Bool) (s v : ℕ) (D F D′ F′ : ℕ → ℕ)
     → ((i : ℕ) → Good n bad i → D′ i ≡ D i) → ((i : ℕ) → Good n bad i → F′ i ≡ F i)
     → TwoThreshold n t T bad s v D F → TwoThreshold n t T bad s v D′ F′
 same-two-threshold n t T bad s v D F D′ F′ d f P = record {

@@ -1,8 +1,9 @@
 -- The theorems: each statement of specs/Theorems.antt, under its name, and the law that proves it. Assumes nothing.
-use Rattle.broadcast.specs.Theorems.{Blanks-count-for-neither, Ballots-make-n, Definition-6, Definition-6-alone, Exchange-effect, Exchange-bytes, Log-bytes, Part-by-rounds, Sent-by-rounds, Outcome-bytes, Table-effect, Demand-3, Station-follows-run, Stations-make-run, Done-after-rows, Value-at-sender}
+use Rattle.broadcast.specs.Theorems.{Blanks-count-for-neither, Ballots-make-n, Definition-6, Definition-6-alone, Exchange-effect, Exchange-bytes, Log-bytes, Part-by-rounds, Sent-by-rounds, Outcome-bytes, Table-effect, Demand-3, Unflagged-agree, Station-follows-run, Stations-make-run, Done-after-rows, Value-at-sender}
 use Rattle.broadcast.proofs.TallyLaws.{blanks-for-neither, seconds-make-n}
 use Rattle.broadcast.proofs.ExchangeLaws.{graded-consensus}
 use Rattle.broadcast.proofs.RoundLaws.{done-after, value-without-effect}
+use Rattle.broadcast.proofs.BroadcastLaws as whole
 use Rattle.broadcast.proofs.BytesLaws.{log-size, log-at, graded-consensus-alone, two-threshold-bytes, exchange-ranges, outcome-ranges-of}
 use Rattle.broadcast.proofs.PartLaws as part
 use Rattle.broadcast.proofs.SaidLaws as said
@@ -44,6 +45,9 @@ table-effect = same-effect
 
 pub demand-3 : Demand-3
 demand-3 = two-threshold-bytes
+
+pub unflagged-agree : Unflagged-agree
+unflagged-agree = whole.unflagged-agree
 
 pub station-follows-run : Station-follows-run
 station-follows-run = follows

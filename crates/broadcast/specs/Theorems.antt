@@ -9,7 +9,7 @@ use lib.Dec.{eqb}
 use lib.ListN.{length}
 use Rattle.line.specs.Count.{count}
 use Rattle.line.specs.Line.{Fits, from-0, rounds, table-length, outcomes-length, place}
-use Rattle.line.specs.Marks.{marked}
+use Rattle.line.specs.Marks.{marked, faults}
 use Rattle.line.specs.Ballot.{blank}
 use Rattle.broadcast.specs.Exchange.{Row, seconds, Setting, y, grade, flag-of}
 use Rattle.broadcast.specs.Broadcast.{from-sender, first-of, second-of, from-king, x-after, z-after, y-after, part, sent}
@@ -153,6 +153,14 @@ abbrev pub Demand-3 : Type 0
 Demand-3 =
     (R : Run) → Fits (R .n) (R .t) (R .T) → R .value ≤ 1
     → TwoThreshold (R .n) (R .t) (R .T) (marked (R .marks)) (from-0 (R .sender)) (R .value) (value-at (outcomes R)) (flag-at (outcomes R))
+
+-- f at most T, and one good station that doesn't raise its flag: all good stations decide one value. Said of whatever keeps demand 3, a run or single stations
+abbrev pub Unflagged-agree : Type 0
+Unflagged-agree =
+    (n t T : ℕ) (bad : ℕ → Bool) (sender-from-0 value : ℕ) (decides flags : ℕ → ℕ)
+    → TwoThreshold n t T bad sender-from-0 value decides flags
+    → faults n bad ≤ T → (k : ℕ) → Good n bad k → flags k ≢ 1
+    → (i j : ℕ) → Good n bad i → Good n bad j → decides i ≡ decides j
 
 -- ---- demand 2; the sentences quoted are the demand's own (docs/PROMISES.md, "What is asked")
 
