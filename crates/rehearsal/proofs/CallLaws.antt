@@ -7,7 +7,7 @@ use native.Mathlib.Omega.{arith}
 use native.Mathlib.Numerals.{add-one}
 use lib.ListN.{length, getD}
 use lib.Seq.{ext-getD}
-use Rattle.line.specs.Line.{from-0, rounds, outcomes-length, place}
+use Rattle.line.specs.Line.{from-0, rounds, table-length, outcomes-length, place}
 use Rattle.line.specs.Marks.{marked}
 use Rattle.line.specs.Header.{Sound}
 use Rattle.line.specs.declared.cause.Verdict.the-variants.{Accepted}
@@ -56,6 +56,11 @@ unfolding column
 row-whole n bytes i r = length-tabulate n _
 
 -- ---- of a run
+
+-- station i's three bytes of these results are the run's
+abbrev SameOutcome : Run → List ℕ → ℕ → Type 0
+SameOutcome R results i =
+    (value-at results i ≡ value-at (outcomes R) i) × (grade-at results i ≡ grade-at (outcomes R) i) × (flag-at results i ≡ flag-at (outcomes R) i)
 
 module _ (R : Run) (header : Sound (R .n) (R .t) (R .T) (R .sender) (R .value) (R .marks)) (v : ℕ → ℕ) (values : Values R v) where
   abbrev opening : ℕ → calls.Opening
@@ -125,59 +130,71 @@ module _ (R : Run) (header : Sound (R .n) (R .t) (R .T) (R .sender) (R .value) (
     bad-outcomes = bad-outcome;
   }
 
-  -- ---- what is made of calls is the run
+  -- ---- good stations that run singly on these bytes
 
-  module _ (bytes results : List ℕ) (P : MadeOfCalls R v bytes results) where
+  module _ (bytes results : List ℕ) (single : (i : ℕ) → Good (R .n) (marked (R .marks)) i → Singly R bytes results i (v i)) where
     -- a station of such calls is the automaton's
     same-station : (i : ℕ) (g : Good (R .n) (marked (R .marks)) i) (m : ℕ) → m ≤ rounds (R .t)
-        → P .good i g .station m ≡ calls.station-after (opening i) (column (R .n) bytes i) m
-    same-station i g zero h = same-ready (P .good i g .opens) (in-a-row bytes i g .opens)
+        → single i g .station m ≡ calls.station-after (opening i) (column (R .n) bytes i) m
+    same-station i g zero h = same-ready (single i g .opens) (in-a-row bytes i g .opens)
     same-station i g (suc m) h =
         same-next (λ s. advance-answer s (column (R .n) bytes i (suc m))) (same-station i g m (omega arith))
-        (rw (add-one m) at (P .good i g .advances m h))
+        (rw (add-one m) at (single i g .advances m h))
         (in-a-row bytes i g .advances m h (row-whole (R .n) bytes i (suc m)))
 
     same-told : (i : ℕ) → Good (R .n) (marked (R .marks)) i → (m j : ℕ) → m < rounds (R .t) → j < R .n
         → at bytes (place (R .n) (m + 1) i j) ≡ ballot (setup R i) (after (setup R i) (v i) (column (R .n) bytes i) m)
     same-told i g m j h l =
-        same-ballot ballot-answer (same-station i g m (omega arith)) (P .good i g .tells m j h l) (in-a-row bytes i g .tells m h)
+        same-ballot ballot-answer (same-station i g m (omega arith)) (single i g .tells m j h l) (in-a-row bytes i g .tells m h)
         ∙ ap (λ (c : Setup). ballot c (after c (v i) (column (R .n) bytes i) m)) (its-setup i)
 
-    put-together : PutTogether R v bytes
-    put-together = record {
-      size = P .log-size;
-      from-marked = P .bad-ballots;
-      from-good = λ r i j a b hi hj e.
-          let back : r - 1 + 1 ≡ r = omega arith in
-          rw back at (same-told i (hi, e) (r - 1) j (omega arith) hj);
-    }
+    -- with the table's bytes from the bad ones, what they sent and received is the run's log, and their results are the run's
+    module _ (size : length bytes ≡ table-length (R .n) (R .t))
+        (bad-ballots : (r i j : ℕ) → 1 ≤ r → r ≤ rounds (R .t) → i < R .n → j < R .n → marked (R .marks) i ≡ true
+        → at bytes (place (R .n) r i j) ≡ at (R .table) (place (R .n) r i j))
+      where
+        put-together : PutTogether R v bytes
+        put-together = record {
+          size = size;
+          from-marked = bad-ballots;
+          from-good = λ r i j a b hi hj e.
+              let back : r - 1 + 1 ≡ r = omega arith in
+              rw back at (same-told i (hi, e) (r - 1) j (omega arith) hj);
+        }
 
-    the-log : bytes ≡ log R
-    the-log = make-run .the-log bytes put-together
+        the-log : bytes ≡ log R
+        the-log = make-run .the-log bytes put-together
 
-    -- the results of its calls are the run's
-    good-outcome : (i : ℕ) → Good (R .n) (marked (R .marks)) i
-        → (value-at results i ≡ value-at (outcomes R) i) × (grade-at results i ≡ grade-at (outcomes R) i) × (flag-at results i ≡ flag-at (outcomes R) i)
-    unfolding run-singly
-    good-outcome i g =
-        same-result result-answer
-        (same-station i g (rounds (R .t)) (omega arith)
-        ∙ ap (λ (l : List ℕ). calls.station-after (opening i) (column (R .n) l i) (rounds (R .t))) the-log)
-        (P .good i g .done) (run-singly i g .done)
+        pub good-outcome : (i : ℕ) → Good (R .n) (marked (R .marks)) i → SameOutcome R results i
+        unfolding run-singly
+        good-outcome i g =
+            same-result result-answer
+            (same-station i g (rounds (R .t)) (omega arith)
+            ∙ ap (λ (l : List ℕ). calls.station-after (opening i) (column (R .n) l i) (rounds (R .t))) the-log)
+            (single i g .done) (run-singly i g .done)
+
+  -- ---- what is made of calls is the run
+
+  module _ (bytes results : List ℕ) (P : MadeOfCalls R v bytes results) where
+    its-log : bytes ≡ log R
+    its-log = the-log bytes results (P .good) (P .log-size) (P .bad-ballots)
+
+    its-good : (i : ℕ) → Good (R .n) (marked (R .marks)) i → SameOutcome R results i
+    its-good = good-outcome bytes results (P .good) (P .log-size) (P .bad-ballots)
 
     outcome-same : (i d : ℕ) → i < R .n → d < 3 → at results (3 * i + d) ≡ at (outcomes R) (3 * i + d)
     outcome-same i d h l = go (marked (R .marks) i) refl d l
       where
         go : (b : Bool) → marked (R .marks) i ≡ b → (d : ℕ) → d < 3 → at results (3 * i + d) ≡ at (outcomes R) (3 * i + d)
         go true e d l = P .bad-outcomes i d h l e ∙ sym (bad-outcome i d h l e)
-        go false e zero l = let z : 3 * i + 0 ≡ 3 * i = omega arith in rw z (good-outcome i (h, e) .0)
-        go false e (suc zero) l = good-outcome i (h, e) .1
-        go false e (suc (suc zero)) l = good-outcome i (h, e) .2
+        go false e zero l = let z : 3 * i + 0 ≡ 3 * i = omega arith in rw z (its-good i (h, e) .0)
+        go false e (suc zero) l = its-good i (h, e) .1
+        go false e (suc (suc zero)) l = its-good i (h, e) .2
         go false e (suc (suc (suc d))) l = absurd (omega arith)
 
-    the-outcomes : results ≡ outcomes R
+    its-outcomes : results ≡ outcomes R
     unfolding at
-    the-outcomes = ext-getD 0 results (outcomes R) (P .outcomes-size ∙ sym (outcome-bytes R .size)) each
+    its-outcomes = ext-getD 0 results (outcomes R) (P .outcomes-size ∙ sym (outcome-bytes R .size)) each
       where
         each : (k : ℕ) → k < length results → getD results k 0 ≡ getD (outcomes R) k 0
         each k h =
@@ -186,4 +203,4 @@ module _ (R : Run) (header : Sound (R .n) (R .t) (R .T) (R .sender) (R .value) (
             rw d at (outcome-same (k / 3) (k % 3) (omega arith) (omega arith))
 
   pub single-stations : SingleStations R v (log R) (outcomes R)
-  single-stations = record { singly = made; together = λ l o P. (the-log l o P, the-outcomes l o P) }
+  single-stations = record { singly = made; together = λ l o P. (its-log l o P, its-outcomes l o P) }

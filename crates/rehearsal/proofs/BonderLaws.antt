@@ -1,0 +1,23 @@
+-- Demand 3 of real bonders: what they received, taken for a run table, makes a run of which this is the log; their results are that run's. Assumes nothing.
+use mathlib.Core.Path.{refl}
+use Rattle.line.specs.Line.{from-0}
+use Rattle.line.specs.Marks.{marked}
+use Rattle.line.proofs.HeaderLaws.{header-sound}
+use Rattle.broadcast.proofs.BytesLaws.{same-two-threshold}
+use Rattle.broadcast.proofs.Theorems as theorems
+use Rattle.rehearsal.specs.Promise.{run-of}
+use Rattle.rehearsal.specs.Theorems.{Demand-3-of-bonders, Unflagged-bonders-agree}
+use Rattle.rehearsal.proofs.CallLaws.{good-outcome}
+
+pub guaranteed : Demand-3-of-bonders
+guaranteed n t T sender value marks v received outcomes accepted B =
+    let R = run-of n t T sender value marks received in
+    let header = header-sound n t T sender value marks accepted in
+    let same = good-outcome R header v (B .values) received outcomes (B .good) (B .received-size) (λ r i j a b c d e. refl) in
+    same-two-threshold n t T (marked marks) (from-0 sender) value _ _ _ _ (λ i g. same i g .0) (λ i g. same i g .2)
+    (theorems.demand-3 R (header .fits) (header .value-bit))
+
+pub unflagged-agree : Unflagged-bonders-agree
+unflagged-agree n t T sender value marks v received outcomes accepted B =
+    theorems.unflagged-agree n t T (marked marks) (from-0 sender) value _ _
+    (guaranteed n t T sender value marks v received outcomes accepted B)
