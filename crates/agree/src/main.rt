@@ -1,6 +1,7 @@
 // Reads a run sheet on standard input and writes its listing to standard output.
 ghost use Rattle.io.specs.Counts.{Counts};
 ghost use Rattle.listing.specs.Promise.{Listed};
+use input::Input;
 use libc::STDERR_FILENO;
 use libc::STDIN_FILENO;
 use libc::STDOUT_FILENO;
@@ -29,6 +30,10 @@ fn list(sheet: &[u8]) {
 // The longest sheet has 32,780 bytes; the one more tells that an input is longer.
 fn main() {
     let mut sheet = [0u8; 32781];
-    let n = io::read_full(STDIN_FILENO, &mut sheet);
-    list(&sheet[..n]);
+    match input::whole(STDIN_FILENO, &mut sheet) {
+        Input::Bytes(n) => list(&sheet[..n]),
+        Input::Failed => {
+            io::write_all(STDERR_FILENO, b"agree: standard input could not be read\n");
+        }
+    }
 }

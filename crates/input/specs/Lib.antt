@@ -1,0 +1,2 @@
+-- An input that is read to its end.
+pub mod Reading
