@@ -1,8 +1,8 @@
 -- Demand 3 of the broadcast, from Definition 6 of its exchanges. The argument is that of source 001, Theorem 1. Assumes nothing.
 use Prim.Native.Nat.{ℕ, zero, suc, _+_, _≤_, _<_}
 use mathlib.Core.Path.{_≡_, refl, sym, ap, _∙_}
-use mathlib.Core.Logic.{_⊎_, inl, inr}
-use mathlib.Core.Bool.{Bool, true, false}
+use mathlib.Core.Logic.{_⊎_, inl, inr, _≢_}
+use mathlib.Core.Bool.{Bool, true, false, not, true≢false}
 use native.Mathlib.Omega.{arith}
 use native.Mathlib.Decide.{le-ind}
 use native.Mathlib.Nat.{lt-of-not-le, le-of-eq, le-antisymm, eq-zero-or-pos}
@@ -10,12 +10,12 @@ use borrow.Author.Tests.{eqb-true, eqb-false}
 use lib.Dec.{eqb}
 use Rattle.line.specs.Line.{Fits}
 use Rattle.line.specs.Ballot.{read-sender}
-use Rattle.line.proofs.CountLaws.{widen, witness}
+use Rattle.line.proofs.CountLaws.{mono, widen, witness}
 use Rattle.line.proofs.BallotLaws.{read-sender-bit, read-sender-keeps}
 use Rattle.broadcast.specs.Exchange.{Setting, sends, flag-of}
 use Rattle.broadcast.specs.Broadcast.{obey, phases, first-round, x-after, y-after, grade-after, value-of, final-grade, final-flag}
 use Rattle.broadcast.specs.Guarantees.{Good, GradedConsensus, TwoThreshold}
-use Rattle.broadcast.specs.Theorems.{Unflagged-agree}
+use Rattle.broadcast.specs.Theorems.{Unflagged-agree, Enough-unflagged}
 use Rattle.broadcast.proofs.TallyLaws.{flag-means, flag-bit, obey-means, obey-bit, obey-king}
 use Rattle.broadcast.proofs.ExchangeLaws.{faults-of, All, good-sends, y-is-bit, graded-consensus}
 
@@ -131,3 +131,16 @@ unflagged-agree n t T bad s v D F P f k gk quiet i j gi gj = go (eqb (D i) (D j)
     go : (same : Bool) → eqb (D i) (D j) ≡ same → D i ≡ D j
     go true e = eqb-true (D i) (D j) e
     go false e = absurd (quiet (P .consistency-detection f i j gi gj (eqb-false (D i) (D j) e) k gk))
+
+-- and so would every station that shows no flag be bad, which are too many
+pub enough-unflagged : Enough-unflagged
+enough-unflagged n t T bad s v D F P f enough i j gi gj = go (eqb (D i) (D j)) refl
+  where
+    raised : D i ≢ D j → (k : ℕ) → k < n → (b : Bool) → bad k ≡ b → not (eqb (F k) 1) ≡ true → b ≡ true
+    raised differ k h true e quiet = refl
+    raised differ k h false e quiet = absurd (true≢false (sym (rw (P .consistency-detection f i j gi gj differ k (h, e)) at quiet)))
+
+    go : (same : Bool) → eqb (D i) (D j) ≡ same → D i ≡ D j
+    go true e = eqb-true (D i) (D j) e
+    go false e =
+        absurd (omega (arith, f, enough, mono n (λ k. not (eqb (F k) 1)) bad (λ k h. raised (eqb-false (D i) (D j) e) k h (bad k) refl)))

@@ -3,7 +3,7 @@
 use Prim.Native.Nat.{ℕ, suc, _+_, _-_, _*_, _≤_, _<_}
 use mathlib.Core.Path.{_≡_}
 use mathlib.Core.Logic.{_≢_}
-use mathlib.Core.Bool.{Bool, true, false}
+use mathlib.Core.Bool.{Bool, true, false, not}
 use mathlib.Core.List.{List}
 use lib.Dec.{eqb}
 use lib.ListN.{length}
@@ -160,6 +160,14 @@ Unflagged-agree =
     (n t T : ℕ) (bad : ℕ → Bool) (sender-from-0 value : ℕ) (decides flags : ℕ → ℕ)
     → TwoThreshold n t T bad sender-from-0 value decides flags
     → faults n bad ≤ T → (k : ℕ) → Good n bad k → flags k ≢ 1
+    → (i j : ℕ) → Good n bad i → Good n bad j → decides i ≡ decides j
+
+-- f at most T, and more than T stations that show no flag, whichever of these are bad: all good stations decide one value
+abbrev pub Enough-unflagged : Type 0
+Enough-unflagged =
+    (n t T : ℕ) (bad : ℕ → Bool) (sender-from-0 value : ℕ) (decides flags : ℕ → ℕ)
+    → TwoThreshold n t T bad sender-from-0 value decides flags
+    → faults n bad ≤ T → T < count n (λ k. not (eqb (flags k) 1))
     → (i j : ℕ) → Good n bad i → Good n bad j → decides i ≡ decides j
 
 -- ---- demand 2; the sentences quoted are the demand's own (docs/PROMISES.md, "What is asked")
