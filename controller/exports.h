@@ -11,9 +11,9 @@
  * Each call answers with the number of the refusal, 0 if accepted. Any content
  * may be handed in. A call reads nothing but its arguments and the bytes that
  * they point to, keeps nothing, and the same arguments always give the same
- * answer and the same bytes. It writes only what is said below; if it is refused,
- * every byte is as it was. It calls nothing but memcpy and memset, which it takes
- * from the C library.
+ * answer and the same bytes. It writes only what is said below; if it is
+ * refused, every byte is as it was. It calls nothing but memcpy and memset,
+ * which it takes from the C library.
  *
  * A pointer has to point to as many bytes as its length says, which nobody else
  * writes during the call. It may be NULL only if that length is 0. No call
@@ -45,11 +45,11 @@ enum {
 /*
  * Reads a run sheet into a run table.
  *
- * sheet      12 bytes of header: n, t, T, sender, value, 0, index of the first
- *            record or 0 (two bytes), marks (four bytes); then k records of 8,
- *            k at most 4,096: round, from, to, ballot, next index or 0 (two
- *            bytes), 0, 0. Low bytes first; records are counted from 1. Only
- *            read.
+ * sheet      12 bytes of header: n, t, upper, sender, value, 0, index of the
+ *            first record or 0 (two bytes), marks (four bytes); then k records
+ *            of 8, k at most 4,096: round, from, to, ballot, next index or 0
+ *            (two bytes), 0, 0. Low bytes first; records are counted from 1.
+ *            Only read.
  * sheet_len  12 + 8k
  * table      the run table; written: the chained records' ballots in their
  *            places, 255 everywhere else
@@ -65,7 +65,7 @@ uint8_t vembopu_read(const uint8_t *sheet, size_t sheet_len,
 /*
  * Rehearses a broadcast.
  *
- * n, t, T       as in vembopu.h
+ * n, t, upper   as in vembopu.h
  * sender        1 to n
  * value         what the sender broadcasts, 0 or 1, also where it is marked
  * marks         the bad stations
@@ -81,7 +81,7 @@ uint8_t vembopu_read(const uint8_t *sheet, size_t sheet_len,
  *
  * Refused: the lowest of 2, 3, 4, 5, 6, 8.
  */
-uint8_t vembopu_rehearse(uint8_t n, uint8_t t, uint8_t T, uint8_t sender,
+uint8_t vembopu_rehearse(uint8_t n, uint8_t t, uint8_t upper, uint8_t sender,
                          uint8_t value, uint32_t marks,
                          const uint8_t *table, size_t table_len,
                          uint8_t *log, size_t log_len,
@@ -90,7 +90,7 @@ uint8_t vembopu_rehearse(uint8_t n, uint8_t t, uint8_t T, uint8_t sender,
 /*
  * The graded exchange of a whole line.
  *
- * n, t, T       as in vembopu.h
+ * n, t, upper   as in vembopu.h
  * marks         the bad stations
  * inputs        station i's input, 0 or 1, at inputs[i - 1]; a marked station's
  *               isn't looked at. Only read.
@@ -103,7 +103,7 @@ uint8_t vembopu_rehearse(uint8_t n, uint8_t t, uint8_t T, uint8_t sender,
  *
  * Refused: the lowest of 2, 3, 5, 6, 8; by 5 only if inputs_len is n.
  */
-uint8_t vembopu_exchange(uint8_t n, uint8_t t, uint8_t T, uint32_t marks,
+uint8_t vembopu_exchange(uint8_t n, uint8_t t, uint8_t upper, uint32_t marks,
                          const uint8_t *inputs, size_t inputs_len,
                          const uint8_t *table, size_t table_len,
                          uint8_t *outcomes, size_t outcomes_len);

@@ -63,7 +63,7 @@ static uint64_t run_advance(struct arguments *a)
 static uint64_t run_advance_lent(struct arguments *a)
 {
     struct vembopu_station s;
-    uint8_t *const field[BYTES] = {&s.n, &s.t, &s.T, &s.sender, &s.own, &s.round, &s.value, &s.z, &s.grade};
+    uint8_t *const field[BYTES] = {&s.n, &s.t, &s.upper, &s.sender, &s.own, &s.round, &s.value, &s.z, &s.grade};
     for (int k = 0; k < BYTES; k++)
         *field[k] = a->byte[k];
     uint64_t number = vembopu_advance_lent(&s, BUFFER(a, 0));
@@ -355,8 +355,8 @@ static void try_call(int call)
 static void offsets(void)
 {
 #define OFFSET(field) offsetof(struct vembopu_station, field)
-    static const size_t offset[BYTES] = {OFFSET(n),     OFFSET(t),     OFFSET(T), OFFSET(sender), OFFSET(own),
-                                         OFFSET(round), OFFSET(value), OFFSET(z), OFFSET(grade)};
+    static const size_t offset[BYTES] = {OFFSET(n),     OFFSET(t),     OFFSET(upper), OFFSET(sender), OFFSET(own),
+                                         OFFSET(round), OFFSET(value), OFFSET(z),     OFFSET(grade)};
     for (size_t k = 0; k < BYTES; k++)
         check(offset[k] == k, "field %lu of the station stands at %lu", (unsigned long)k, (unsigned long)offset[k]);
     check(sizeof(struct vembopu_station) == BYTES, "a station has %lu bytes",

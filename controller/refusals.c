@@ -445,7 +445,7 @@ static void try_bad_rows(struct vembopu_station *s, uint8_t number)
     uint32_t state = vembopu_state_of(s);
     for (int i = 0; i < 3; i++) {
         const uint8_t *row = i == 0 ? NULL : some_row;
-        uint64_t got = vembopu_advance(s->n, s->t, s->T, s->sender, s->own, state, row, length[i]);
+        uint64_t got = vembopu_advance(s->n, s->t, s->upper, s->sender, s->own, state, row, length[i]);
         check(got == answer(number, state), "n %d, a row of %lu: %llx", s->n, (unsigned long)length[i],
               (unsigned long long)got);
         int lent_number = vembopu_advance_lent(s, row, length[i]);
@@ -457,13 +457,13 @@ static void try_bad_rows(struct vembopu_station *s, uint8_t number)
 
 static uint64_t result_of(const struct vembopu_station *s)
 {
-    return vembopu_result(s->n, s->t, s->T, s->sender, s->own, vembopu_state_of(s));
+    return vembopu_result(s->n, s->t, s->upper, s->sender, s->own, vembopu_state_of(s));
 }
 
 /* A row, to a station and to the same one lent: the first one's answer. */
 static uint64_t take_both(struct vembopu_station *s)
 {
-    uint64_t next = vembopu_advance(s->n, s->t, s->T, s->sender, s->own, vembopu_state_of(s), some_row, s->n);
+    uint64_t next = vembopu_advance(s->n, s->t, s->upper, s->sender, s->own, vembopu_state_of(s), some_row, s->n);
     int number = vembopu_advance_lent(s, some_row, s->n);
     check(answer(number, vembopu_state_of(s)) == next, "n %d: %d and state %08lx lent, not %llx", s->n,
           number, (unsigned long)vembopu_state_of(s), (unsigned long long)next);

@@ -10,10 +10,11 @@
  *
  * The five numbers, the same in every call for one station:
  *
- *     n        stations on the line, 1 to 32
- *     t, T     thresholds, t at most T, t + 2T below n
- *     sender   number of the station whose value is broadcast, 1 to n
- *     own      number of this station, 1 to n
+ *     n         stations on the line, 1 to 32
+ *     t, upper  thresholds, t at most upper, t + 2*upper below n; upper is
+ *               document 01's T
+ *     sender    number of the station whose value is broadcast, 1 to n
+ *     own       number of this station, 1 to n
  *
  * Any content may be handed in: what is not allowed is refused, by number, and
  * nothing else happens. A call reads nothing but its arguments, for a row the
@@ -51,7 +52,8 @@ enum {
     VEMBOPU_BAD_SHEET = 1,        /* sheet_len not 12 + 8k with k from 0 to
                                      4,096, or byte 5 not zero */
     VEMBOPU_BAD_N = 2,            /* n outside 1 to 32 */
-    VEMBOPU_BAD_THRESHOLDS = 3,   /* t above T, or t + 2T not below n */
+    VEMBOPU_BAD_THRESHOLDS = 3,   /* t above upper, or t + 2*upper not
+                                     below n */
     VEMBOPU_BAD_NUMBER = 4,       /* sender or own outside 1 to n */
     VEMBOPU_BAD_VALUE = 5,        /* value, or an unmarked station's input, not
                                      0 or 1 */
@@ -99,7 +101,7 @@ enum {
  * Gives the state.
  * Refused: the lowest of 2, 3, 4, 5; the lower 32 bits are then 0.
  */
-uint64_t vembopu_open(uint8_t n, uint8_t t, uint8_t T, uint8_t sender,
+uint64_t vembopu_open(uint8_t n, uint8_t t, uint8_t upper, uint8_t sender,
                       uint8_t own, uint8_t value);
 
 /*
@@ -115,7 +117,7 @@ uint64_t vembopu_open(uint8_t n, uint8_t t, uint8_t T, uint8_t sender,
  * Gives the ballot.
  * Refused: the lowest of 2, 3, 4, 7; the lower 32 bits are then 0.
  */
-uint64_t vembopu_ballot(uint8_t n, uint8_t t, uint8_t T, uint8_t sender,
+uint64_t vembopu_ballot(uint8_t n, uint8_t t, uint8_t upper, uint8_t sender,
                         uint8_t own, uint32_t state);
 
 /*
@@ -136,7 +138,7 @@ uint64_t vembopu_ballot(uint8_t n, uint8_t t, uint8_t T, uint8_t sender,
  * handed in, so that the station stays where it was and another row may be
  * tried.
  */
-uint64_t vembopu_advance(uint8_t n, uint8_t t, uint8_t T, uint8_t sender,
+uint64_t vembopu_advance(uint8_t n, uint8_t t, uint8_t upper, uint8_t sender,
                          uint8_t own, uint32_t state, const uint8_t *row,
                          size_t row_len);
 
@@ -149,7 +151,7 @@ uint64_t vembopu_advance(uint8_t n, uint8_t t, uint8_t T, uint8_t sender,
  * Gives, lowest byte first: 0, round, 0, 0; or 1, value, grade, flag.
  * Refused: the lowest of 2, 3, 4, 7; the lower 32 bits are then 0.
  */
-uint64_t vembopu_result(uint8_t n, uint8_t t, uint8_t T, uint8_t sender,
+uint64_t vembopu_result(uint8_t n, uint8_t t, uint8_t upper, uint8_t sender,
                         uint8_t own, uint32_t state);
 
 /* ---- The station lent ---- */
@@ -160,7 +162,7 @@ uint64_t vembopu_result(uint8_t n, uint8_t t, uint8_t T, uint8_t sender,
  * gives its state for ballot and result.
  */
 struct vembopu_station {
-    uint8_t n, t, T, sender, own;
+    uint8_t n, t, upper, sender, own;
     uint8_t round, value, z, grade;
 };
 
@@ -183,10 +185,10 @@ uint8_t vembopu_advance_lent(struct vembopu_station *s, const uint8_t *row,
 
 /* The station with these numbers and this state, that of an accepted open. */
 static inline struct vembopu_station
-vembopu_station_of(uint8_t n, uint8_t t, uint8_t T, uint8_t sender, uint8_t own,
-                   uint32_t state)
+vembopu_station_of(uint8_t n, uint8_t t, uint8_t upper, uint8_t sender,
+                   uint8_t own, uint32_t state)
 {
-    struct vembopu_station s = {n, t, T, sender, own, 0, 0, 0, 0};
+    struct vembopu_station s = {n, t, upper, sender, own, 0, 0, 0, 0};
     s.round = (uint8_t)(state & 0xffu);
     s.value = (uint8_t)((state >> 8) & 0xffu);
     s.z = (uint8_t)((state >> 16) & 0xffu);
