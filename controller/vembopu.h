@@ -1,13 +1,6 @@
 /*
  * One station of a line, for the controller of a bonder.
  *
- * A station needs no memory of its own. The controller keeps the five numbers
- * that the station was opened with, and its state of 32 bits, which it takes
- * from one answer and hands to the next call:
- *
- *     open, then for each round: ballot, send it, receive a row, advance;
- *     when result says done: value, grade and flag.
- *
  * The five numbers, the same in every call for one station:
  *
  *     n         stations on the line, 1 to 32
@@ -15,6 +8,36 @@
  *               document 01's T
  *     sender    number of the station whose value is broadcast, 1 to n
  *     own       number of this station, 1 to n
+ *
+ * The words:
+ *
+ *     bad       a station that at any time of a run, for whatever reason,
+ *               doesn't keep to it; otherwise it is good
+ *     value     a bit: 0 keeps the old recipe, 1 changes over
+ *     round     each station sends at most one byte to all and receives what
+ *               the others send. A run has R = 3t + 6 rounds, counted from 1
+ *     ballot    the byte that is sent: 0, 1, or 2, blank, which counts for
+ *               neither
+ *     silence   255: a station doesn't speak in a round, or nothing came from
+ *               it
+ *     row       the n bytes that a station received in a round
+ *     exchange  two rounds: all send their value, then their z, which is that
+ *               value if at least n - upper ballots had it, otherwise blank.
+ *               The new value is the bit that more z have, 1 if as many
+ *     grade     how many z have it: 2 if at least n - t, else 1 if at least
+ *               n - upper, else 0
+ *     flag      1 exactly if the last grade is below 2. At a good station a
+ *               flag of 1 says that more than t stations are bad
+ *
+ * A station needs no memory of its own. The controller keeps the five numbers
+ * and the station's state of 32 bits, which it takes from one answer and hands
+ * to the next call:
+ *
+ *     open, then for each round: ballot, send it, receive a row, advance;
+ *     when result says done: value, grade and flag.
+ *
+ * What a controller owes these calls on the wire, and what to do with value,
+ * grade and flag: README.md, "On the wire".
  *
  * Any content may be handed in: what is not allowed is refused, by number, and
  * nothing else happens. A call reads nothing but its arguments, for a row the
@@ -33,15 +56,33 @@
 #include <stddef.h>
 #include <stdint.h>
 
+/*
+ * Document 01 with requests 1 to N is version 1.N. With the minor number the
+ * layout of the state, of the struct or of an answer may change: a state kept
+ * by one version is never handed to another. The libraries don't tell theirs:
+ * take them and the headers from one version.
+ */
+#define VEMBOPU_VERSION_MAJOR 1
+#define VEMBOPU_VERSION_MINOR 0
+#define VEMBOPU_VERSION "1.0"
+
 #ifdef __cplusplus
 extern "C" {
 #endif
 
-/* Ballot bytes other than 0 and 1. Every other byte is garbled. */
+/* Ballot bytes other than 0 and 1, and what the helpers at the end of this file
+   give in place of a value, grade or flag that isn't there. */
 enum {
     VEMBOPU_BLANK = 2,
-    VEMBOPU_SILENCE = 255
+    VEMBOPU_SILENCE = 255,
+    VEMBOPU_NOTHING = 255
 };
+
+/* R, the rounds of a run and the rows that a station takes, for any t. */
+static inline int vembopu_rounds(uint8_t t)
+{
+    return 3 * t + 6;
+}
 
 /*
  * Why a call is refused, by document 01's numbers. A station's calls give 2, 3,
@@ -95,11 +136,12 @@ enum {
 /*
  * A station before round 1.
  *
- * value    the bit to broadcast, 0 keeps the old recipe, 1 changes over. It
- *          matters only at the sender, and has to be 0 or 1 at every station.
+ * value    the bit to broadcast. It matters only at the sender, and has to be
+ *          0 or 1 at every station.
  *
  * Gives the state.
- * Refused: the lowest of 2, 3, 4, 5; the lower 32 bits are then 0.
+ * Refused: the lowest of 2, 3, 4, 5; the lower 32 bits are then 0, a state that
+ * every later call refuses, by 7 if no lower number comes first.
  */
 uint64_t vembopu_open(uint8_t n, uint8_t t, uint8_t upper, uint8_t sender,
                       uint8_t own, uint8_t value);
@@ -110,9 +152,9 @@ uint64_t vembopu_open(uint8_t n, uint8_t t, uint8_t upper, uint8_t sender,
  *
  * state    from the last accepted open or advance of this station. Any 32 bits
  *          may be handed in. Lowest byte first they are round, value, z and
- *          grade. With R = 3t + 6, a round outside 1 to R + 1, a value above
- *          1, a z or a grade above 2 is refused by 7. The round of a done
- *          station is R + 1, and this call refuses that by 7 as well.
+ *          grade. A round outside 1 to R + 1, a value above 1, a z or a grade
+ *          above 2 is refused by 7. The round of a done station is R + 1, and
+ *          this call refuses that by 7 as well.
  *
  * Gives the ballot.
  * Refused: the lowest of 2, 3, 4, 7; the lower 32 bits are then 0.
@@ -124,11 +166,13 @@ uint64_t vembopu_ballot(uint8_t n, uint8_t t, uint8_t upper, uint8_t sender,
  * The station after the row that it received in the current round.
  *
  * state    as for vembopu_ballot, a done station refused by 7 as well.
- * row      row[i - 1] is the byte received from station i, the own ballot at
- *          row[own - 1]; 255 where nothing came. Any byte may stand there: in
- *          the second round of an exchange one other than 0 or 1 is read as
- *          blank, in every other round as 0. Only read, and only during the
- *          call.
+ * row      row[i - 1] is the byte received from station i, 255 where nothing
+ *          came. row[own - 1] is the ballot that vembopu_ballot gave in this
+ *          round, 255 where this station doesn't speak. That isn't checked: a
+ *          station that is handed another byte there is none that the promises
+ *          speak of, and counts as bad. Any byte may stand in a row: in the
+ *          second round of an exchange one other than 0 or 1 is read as blank,
+ *          in every other round as 0. Only read, and only during the call.
  * row_len  the number of bytes at row, which nobody writes during the call. Any
  *          other number than n is refused by 8. row may be NULL only if row_len
  *          is 0.
@@ -143,8 +187,8 @@ uint64_t vembopu_advance(uint8_t n, uint8_t t, uint8_t upper, uint8_t sender,
                          size_t row_len);
 
 /*
- * The result: running, with the round; or, after exactly R = 3t + 6 accepted
- * rows, done, with value, grade and flag.
+ * The result: running, with the round; or, after exactly R accepted rows, done,
+ * with value, grade and flag.
  *
  * state    as for vembopu_ballot, but that a done station is accepted.
  *
@@ -173,7 +217,8 @@ struct vembopu_station {
  * s        points to nine bytes, which the row doesn't overlap and nobody else
  *          reads or writes during the call; never NULL. Any bytes may stand
  *          there.
- * row      and row_len as for vembopu_advance.
+ * row      and row_len as for vembopu_advance, the own ballot unchecked at
+ *          row[own - 1] too.
  *
  * Answers 0 if the row is taken: round, value, z and grade at s are then those
  * after the row, the five numbers as they were.
@@ -205,22 +250,37 @@ static inline uint32_t vembopu_state_of(const struct vembopu_station *s)
 
 /* ---- Taking an answer apart ---- */
 
+/*
+ * Of a refused answer, and of a result that is running, no helper gives what
+ * could be taken for a ballot, a value, a grade or a flag of 0, 1 or 2: it is
+ * 255. In C that is true, and above every grade: compare by ==, and look at the
+ * flag first. flag == 0 says at once that the call was accepted, that the
+ * station is done, and that its value may be used.
+ *
+ * A helper can't tell which call an answer is from. Hand it none but those of
+ * the calls that it names: an accepted open's would pass for a done result.
+ */
+
 /* Of any call on numbers: the refusal number, 0 if accepted. Ask this first. */
 static inline uint32_t vembopu_refusal(uint64_t answer)
 {
     return (uint32_t)(answer >> 32);
 }
 
-/* Of open, if accepted, and of advance: the state. */
+/* Of open and advance: the state. Of a refused open 0, which every later call
+   refuses; of a refused advance the state that was handed in. */
 static inline uint32_t vembopu_state(uint64_t answer)
 {
     return (uint32_t)(answer & 0xffffffffu);
 }
 
-/* Of an accepted ballot: the byte to send; 255 means send nothing. */
+/* Of ballot: the byte to send. 255 means send nothing: the station doesn't
+   speak, or the call is refused. */
 static inline uint8_t vembopu_ballot_byte(uint64_t answer)
 {
-    return (uint8_t)(answer & 0xffu);
+    if (answer > VEMBOPU_BLANK)
+        return VEMBOPU_SILENCE;
+    return (uint8_t)answer;
 }
 
 /* Of result: 1 if accepted and done, 0 if running or refused. */
@@ -235,27 +295,36 @@ static inline int vembopu_running(uint64_t answer)
     return vembopu_refusal(answer) == 0 && (answer & 0xffu) == 0;
 }
 
-/* Of a result that is running: the current round, 1 to R. */
+/* Of result: the current round, 1 to R; 0 if done or refused. */
 static inline uint8_t vembopu_round(uint64_t answer)
 {
+    if (!vembopu_running(answer))
+        return 0;
     return (uint8_t)((answer >> 8) & 0xffu);
 }
 
-/* Of a result that is done: the bit that is decided, 0 or 1. */
+/* Of result: the bit that is decided, 0 or 1; 255 if running or refused. */
 static inline uint8_t vembopu_value(uint64_t answer)
 {
+    if (!vembopu_done(answer))
+        return VEMBOPU_NOTHING;
     return (uint8_t)((answer >> 8) & 0xffu);
 }
 
-/* Of a result that is done: the grade, 0 to 2. */
+/* Of result: the last grade, 0 to 2; 255 if running or refused. */
 static inline uint8_t vembopu_grade(uint64_t answer)
 {
+    if (!vembopu_done(answer))
+        return VEMBOPU_NOTHING;
     return (uint8_t)((answer >> 16) & 0xffu);
 }
 
-/* Of a result that is done: the flag, 1 exactly if the grade is below 2. */
+/* Of result: the flag, 1 exactly if the grade is below 2, otherwise 0; 255 if
+   running or refused. */
 static inline uint8_t vembopu_flag(uint64_t answer)
 {
+    if (!vembopu_done(answer))
+        return VEMBOPU_NOTHING;
     return (uint8_t)((answer >> 24) & 0xffu);
 }
 

@@ -1,0 +1,209 @@
+/*
+ * The header's helpers on answers of every kind: refused by each number, running
+ * in each round, done with each value and grade, every ballot; as the library
+ * answers, and with any bytes below a refusal. Then the number of rounds, the
+ * state of a refused open, and the version.
+ */
+#define _DEFAULT_SOURCE
+#include "check.h"
+#include "model.h"
+#include "vembopu.h"
+
+#include <string.h>
+
+#if VEMBOPU_VERSION_MAJOR != 1 || VEMBOPU_VERSION_MINOR < 0
+#error "the version's numbers are for #if too"
+#endif
+
+enum { NONE = 255, MOST_T = 10, NUMBERS = 14 };
+
+/* What the helpers make of an answer, but for the state. */
+struct parts {
+    uint32_t refusal;
+    int ballot, done, running, round, value, grade, flag;
+};
+
+/* 1 if the helpers make this of it; says the first few that differ. */
+static int held(uint64_t a, struct parts want)
+{
+    static int told;
+    struct parts got = {vembopu_refusal(a), vembopu_ballot_byte(a), vembopu_done(a),  vembopu_running(a),
+                        vembopu_round(a),   vembopu_value(a),       vembopu_grade(a), vembopu_flag(a)};
+    if (memcmp(&got, &want, sizeof got) == 0 && vembopu_state(a) == (uint32_t)a)
+        return 1;
+    if (told++ < MOST_TOLD)
+        printf("%016llx: refusal %lu ballot %d done %d running %d round %d value %d grade %d flag %d state %08lx\n",
+               (unsigned long long)a, (unsigned long)got.refusal, got.ballot, got.done, got.running, got.round,
+               got.value, got.grade, got.flag, (unsigned long)vembopu_state(a));
+    return 0;
+}
+
+/* 1 if a hurried caller comes out on the safe side: a flag, and no value. */
+static int undecided(uint64_t a)
+{
+    int safe = 1;
+    if (!vembopu_flag(a))
+        safe = 0;
+    if (vembopu_value(a) == 1 || vembopu_value(a) == 0)
+        safe = 0;
+    if (vembopu_grade(a) == 2 || vembopu_grade(a) == 1)
+        safe = 0;
+    return safe;
+}
+
+static int held_refused(uint64_t a, uint32_t number)
+{
+    const struct parts want = {number, NONE, 0, 0, 0, NONE, NONE, NONE};
+    return held(a, want) && undecided(a);
+}
+
+/* ---- Refused ---- */
+
+/* Each call that can be refused by this number; a row is one byte short. */
+static void refused_calls(const struct call *c, uint32_t number)
+{
+    uint8_t n = (uint8_t)c->n, t = (uint8_t)c->t, T = (uint8_t)c->T, sender = (uint8_t)c->sender, own = (uint8_t)c->own;
+    uint8_t row[32] = {0};
+    if (number < 7)
+        check(held_refused(vembopu_open(n, t, T, sender, own, (uint8_t)c->value), number), "open, %u", number);
+    if (number != 5)
+        check(held_refused(vembopu_advance(n, t, T, sender, own, state_bits(c), row, (size_t)c->n - 1), number),
+              "advance, %u", number);
+    if (number == 5 || number == 8)
+        return;
+    check(held_refused(vembopu_ballot(n, t, T, sender, own, state_bits(c)), number), "ballot, %u", number);
+    check(held_refused(vembopu_result(n, t, T, sender, own, state_bits(c)), number), "result, %u", number);
+}
+
+static void refused_by_each(void)
+{
+    /* n, t, T, sender, own, value, round, x, z, grade */
+    static const struct call calls[] = {
+        {33, 1, 1, 1, 1, 1, 1, 1, 1, 1, NULL, 0}, {4, 2, 1, 1, 1, 1, 1, 1, 1, 1, NULL, 0},
+        {4, 1, 1, 5, 1, 1, 1, 1, 1, 1, NULL, 0},  {4, 1, 1, 1, 1, 2, 1, 1, 1, 1, NULL, 0},
+        {4, 1, 1, 1, 1, 1, 1, 2, 1, 1, NULL, 0},  {4, 1, 1, 1, 1, 1, 1, 1, 1, 1, NULL, 0},
+    };
+    static const uint32_t number[] = {2, 3, 4, 5, 7, 8};
+    for (int i = 0; i < 6; i++)
+        refused_calls(&calls[i], number[i]);
+}
+
+/* The bytes of every accepted answer are among these. */
+static void refused_with_bytes(void)
+{
+    static const int byte[] = {0, 1, 2, 255};
+    for (uint32_t number = 1; number < NUMBERS; number++) {
+        int same = 1;
+        for (int i = 0; i < 256; i++) {
+            uint32_t below = bytes4(byte[i % 4], byte[i / 4 % 4], byte[i / 16 % 4], byte[i / 64]);
+            same = held_refused(answer((int)number, below), number) && same;
+        }
+        check(same, "refused by %u, with any bytes", number);
+    }
+    check(held_refused(UINT64_MAX, UINT32_MAX), "all ones");
+    check(held_refused((uint64_t)1 << 63, (uint32_t)1 << 31), "the highest bit");
+}
+
+/* ---- Accepted ---- */
+
+/* A result gives no ballot either, running or done. */
+static void running(void)
+{
+    for (uint8_t t = 0; t <= MOST_T; t++)
+        for (int round = 1; round <= rounds(t); round++) {
+            const struct parts want = {0, NONE, 0, 1, round, NONE, NONE, NONE};
+            uint64_t a = vembopu_result(32, t, MOST_T, 1, 1, bytes4(round, 1, 1, 2));
+            check(held(a, want) && undecided(a), "t %d, running in round %d", t, round);
+        }
+}
+
+static void done(void)
+{
+    for (uint8_t t = 0; t <= MOST_T; t++)
+        for (int i = 0; i < 6; i++) {
+            const struct parts want = {0, NONE, 1, 0, 0, i % 2, i / 2, i / 2 < 2};
+            uint64_t a = vembopu_result(32, t, MOST_T, 1, 1, bytes4(rounds(t) + 1, i % 2, 2, i / 2));
+            check(held(a, want), "t %d, done with value %d, grade %d", t, i % 2, i / 2);
+        }
+}
+
+/* The sender's value, a z, and a station that doesn't speak. */
+static void ballots(void)
+{
+    for (int x = 0; x < 2; x++)
+        check(vembopu_ballot_byte(vembopu_ballot(4, 1, 1, 1, 1, bytes4(1, x, 2, 0))) == x, "ballot %d", x);
+    for (int z = 0; z < 3; z++)
+        check(vembopu_ballot_byte(vembopu_ballot(4, 1, 1, 1, 2, bytes4(3, 1, z, 0))) == z, "ballot z %d", z);
+    check(vembopu_ballot_byte(vembopu_ballot(4, 1, 1, 1, 2, bytes4(1, 1, 2, 0))) == 255, "no ballot");
+    check(VEMBOPU_BLANK == 2 && VEMBOPU_SILENCE == 255 && VEMBOPU_NOTHING == 255, "the names of bytes");
+}
+
+/* No result is 0, but a variable may be. */
+static void zero(void)
+{
+    const struct parts want = {0, 0, 0, 1, 0, NONE, NONE, NONE};
+    check(held(0, want) && undecided(0), "an answer of zero");
+}
+
+/* ---- A refused open's state ---- */
+
+static void refused_by(uint8_t n, uint8_t t, uint8_t T, uint8_t own, uint32_t state, uint32_t number)
+{
+    const uint8_t row[4] = {0};
+    struct vembopu_station s = vembopu_station_of(n, t, T, 1, own, state);
+    check(vembopu_refusal(vembopu_ballot(n, t, T, 1, own, state)) == number, "ballot after open, not %u", number);
+    check(vembopu_refusal(vembopu_result(n, t, T, 1, own, state)) == number, "result after open, not %u", number);
+    check(vembopu_refusal(vembopu_advance(n, t, T, 1, own, state, row, 4)) == number, "row after open, not %u", number);
+    check(vembopu_advance_lent(&s, row, 4) == number, "row lent after open, not %u", number);
+}
+
+/* By 7 with numbers that are a line's, otherwise by open's own number. */
+static void after_refused_open(void)
+{
+    /* n, t, T, own, value, number */
+    static const uint8_t opens[][6] = {{33, 1, 1, 1, 1, 2}, {3, 1, 1, 1, 1, 3}, {4, 1, 1, 5, 1, 4}, {4, 1, 1, 1, 2, 5}};
+    for (int i = 0; i < 4; i++) {
+        const uint8_t *o = opens[i];
+        uint64_t a = vembopu_open(o[0], o[1], o[2], 1, o[3], o[4]);
+        check(vembopu_refusal(a) == o[5] && vembopu_state(a) == 0, "open refused by %d: %llx", o[5],
+              (unsigned long long)a);
+        refused_by(o[0], o[1], o[2], o[3], vembopu_state(a), o[5] == 5 ? 7 : o[5]);
+        refused_by(4, 1, 1, 1, vembopu_state(a), 7);
+    }
+}
+
+/* ---- The number of rounds, and the version ---- */
+
+/* For every t as document 01 has it; as the library has it where t is allowed. */
+static void number_of_rounds(void)
+{
+    for (int t = 0; t < 256; t++)
+        check(vembopu_rounds((uint8_t)t) == rounds(t), "t %d: %d rounds", t, vembopu_rounds((uint8_t)t));
+    for (uint8_t t = 0; t <= MOST_T; t++) {
+        uint32_t last = (uint32_t)vembopu_rounds(t);
+        check(vembopu_running(vembopu_result(32, t, MOST_T, 1, 1, last)), "t %d: not running in round R", t);
+        check(vembopu_done(vembopu_result(32, t, MOST_T, 1, 1, last + 1)), "t %d: not done after round R", t);
+        check(vembopu_refusal(vembopu_result(32, t, MOST_T, 1, 1, last + 2)) == 7, "t %d: a round more", t);
+    }
+}
+
+static void version(void)
+{
+    char both[32];
+    sprintf(both, "%d.%d", VEMBOPU_VERSION_MAJOR, VEMBOPU_VERSION_MINOR);
+    check(strcmp(both, VEMBOPU_VERSION) == 0, "version %s, by its numbers %s", VEMBOPU_VERSION, both);
+}
+
+int main(void)
+{
+    refused_by_each();
+    refused_with_bytes();
+    running();
+    done();
+    ballots();
+    zero();
+    after_refused_open();
+    number_of_rounds();
+    version();
+    return closing_count();
+}
