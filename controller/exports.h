@@ -4,9 +4,9 @@
  * none of them; the numbers of refusals are in vembopu.h.
  *
  * R = 3t + 6 is the number of rounds, vembopu_rounds(t). A table has the byte
- * for round r, from i, to j at ((r-1)*n + (i-1))*n + (j-1). In marks, bit i-1 is
- * set if station i is marked, which is to say bad. An outcome is three bytes a
- * station: value, grade 0 to 2, flag 0 or 1; a bad station's are 255.
+ * for round r, from i, to j at ((r-1)*n + (i-1))*n + (j-1). In marks, bit i-1
+ * is set if station i is marked, which is to say bad. An outcome is three bytes
+ * a station: value, grade 0 to 2, flag 0 or 1; a bad station's are 255.
  *
  * Each call answers with the number of the refusal, 0 if accepted. Any content
  * may be handed in. A call reads nothing but its arguments and the bytes that
