@@ -24,7 +24,7 @@ fn link() {
         if !library.is_file() {
             let library = library.display();
             println!(
-                "cargo::error={library} isn't there: rt staticlib {name} makes it; {FOLDER} names its folder"
+                "cargo::error={library} isn't there: ./build {name} makes it; {FOLDER} names its folder"
             );
         }
         println!("cargo::rerun-if-changed={}", library.display());

@@ -92,7 +92,7 @@ class Library:
 
 def linked(folder):
     """The static libraries as one shared object in this folder."""
-    subprocess.run([TOP / "tests" / "staticlib", *LIBRARIES], check=True)
+    subprocess.run([TOP / "build", *LIBRARIES], check=True)
     shared = pathlib.Path(folder) / "libvembopu.so"
     archives = [TOP / "target" / "staticlib" / f"lib{name}.a" for name in LIBRARIES]
     subprocess.run(["gcc", "-shared", "-o", shared, "-Wl,--whole-archive", *archives, "-Wl,--no-whole-archive"], check=True)
