@@ -155,7 +155,7 @@ fn fuzzing() {
     for words in [&["fuzz", "x"][..], &["fuzz", "1", "2m"], &["fuzz", "1", "1", "a", "b"]] {
         assert_eq!(peer(words, &[]).0, 2);
     }
-    let said = "peer fuzz: nowhere isn't there: rt check agree makes it\n".to_string();
+    let said = "peer fuzz: nowhere isn't there: ./build agree makes it\n".to_string();
     assert_eq!(peer(&["fuzz", "1", "1", "nowhere"], &[]), (2, vec![], said));
 }
 

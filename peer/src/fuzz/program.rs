@@ -19,7 +19,7 @@ const NUMBERS: [u8; 12] = [0, 1, 2, 3, 4, 5, 6, 9, 10, 11, 12, 13];
 /// The program as a call. It is a process each time, so few inputs are given to it.
 pub fn agree(program: &Path) -> Result<Call, String> {
     if !program.is_file() {
-        return Err(format!("{} isn't there: rt check agree makes it", program.display()));
+        return Err(format!("{} isn't there: ./build agree makes it", program.display()));
     }
     let program: PathBuf = program.into();
     let give = move |lot: &mut Lot, input: &[u8]| compare(&program, &sheet(lot, input));
@@ -82,7 +82,7 @@ mod tests {
     #[test]
     fn a_program_that_is_not_there() {
         let error = agree(Path::new("no such program")).err();
-        assert_eq!(error.unwrap(), "no such program isn't there: rt check agree makes it");
+        assert_eq!(error.unwrap(), "no such program isn't there: ./build agree makes it");
         let tried = compare(Path::new("./no such program"), &[]);
         assert!(tried.compared.difference.unwrap().starts_with("the program can't be run: "));
     }
