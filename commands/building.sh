@@ -87,6 +87,7 @@ produce() {
     shift 2
     command -v "$1" >/dev/null || trouble "$path can't be built: $1 is not on the PATH (README.md, \"What it needs\")"
     [ -e "$file" ] && why="$path is older than its sources" || why="$path isn't built yet"
+    : >"$log" || trouble "$log can't be written"
     # what changes while the file is made is newer than it
     : >"$work/began"
     # a process group of its own, so that all of it can be ended

@@ -206,10 +206,23 @@ class Copy:
         return list(self.temporary.iterdir())
 
 
+def reached(crate):
+    """The crate and those of the repository that it needs."""
+    rows = [row.split(":") for row in (TOP / "crates.txt").read_text().splitlines() if not row.startswith("#")]
+    needs = {name: words.split() for name, words in rows}
+    found, ahead = set(), [crate]
+    while ahead:
+        name = ahead.pop()
+        if name in needs and name not in found:
+            found.add(name)
+            ahead += needs[name]
+    return found
+
+
 def building(folder):
-    copy = Copy(folder / "first")
+    copy, all_crates = Copy(folder / "first"), len(reached("agree"))
     first = copy.agree()
-    steps = [f"agree: target/bin/agree isn't built yet: {k} of 8 crates proved" in first.said for k in (1, 2, 3)]
+    steps = [f"agree: target/bin/agree isn't built yet: {k} of {all_crates} crates proved" in first.said for k in (1, 2, 3)]
     yield "the first use builds the program, and says how far it is", first.status == 0 and first.out == b"built\n" and all(steps)
     copy.env["RT_DOES"] = "quick"
     yield "and what it has built", re.search(r"agree: built in \d+ s: [0-9a-f]{64}  target/bin/agree\n$", first.said)
@@ -223,7 +236,7 @@ def building(folder):
     yield "also where a file is gone", copy.agree().out == b"built\n" and len(copy.called()) == 3
     yield "nothing temporary is left", copy.left() == []
     status, shown = on_terminal(["./agree", str(AGREE)], top=Copy(folder / "shown").top, env=copy.env | {"RT_DOES": ""})
-    lines = re.findall(r"\ragree: target/bin/agree isn't built yet: (\d) of 8 crates proved [^\r\n]*, \d+ s\x1b\[K", shown)
+    lines = re.findall(rf"\ragree: target/bin/agree isn't built yet: (\d) of {all_crates} crates proved [^\r\n]*, \d+ s\x1b\[K", shown)
     yield "on a terminal it is one line, kept up to date", status == 0 and list(dict.fromkeys(lines)) == ["1", "2", "3"] and shown.count("\n") == 2
 
 
@@ -266,7 +279,8 @@ def interrupted(folder, number):
     """A command that a signal ends while it builds: it ends by that signal, and leaves neither the tool nor what that has started."""
     copy = Copy(folder / f"signal {number}", "waits")
     pids = pathlib.Path(f"{copy.calls}.pids")
-    command = subprocess.Popen(["./agree", AGREE], cwd=copy.top, env=copy.env, stderr=subprocess.DEVNULL)
+    # whoever runs this may have had the signal ignored, which a shell can't undo
+    command = subprocess.Popen(["./agree", AGREE], cwd=copy.top, env=copy.env, stderr=subprocess.DEVNULL, preexec_fn=lambda: signal.signal(number, signal.SIG_DFL))
     started = until(lambda: pids.exists() and len(pids.read_text().split()) == 2)
     command.send_signal(number)
     with contextlib.suppress(subprocess.TimeoutExpired):
