@@ -1,6 +1,7 @@
 # Building what the commands run, with a line that says how far it is. Sourced, with $top, the repository's folder, and $name, that of the command.
 . "$top/commands/process_group.sh"
 logs=$top/target/commands
+peer=$top/peer/target/release/peer
 group='' work='' shown=''
 
 # say WORDS..: a line on standard error
