@@ -156,8 +156,10 @@ def uses():
         yield f"{command}: an empty name", Ran(command, "").gives(2, b"", f"{command}: the file's name is empty\n{usage}")
         status, shown = on_terminal([f"./{command}"], streams=("stdin", "stderr"))
         yield f"{command}: a terminal as input", status == 2 and re.fullmatch(usage, shown.replace("\r\n", "\n"))
-    status, shown = on_terminal(["./sheet", "examples/a.text"])
-    yield "sheet: a terminal as output", status == 2 and "sheet: a run sheet is bytes" in shown and "\0" not in shown
+    for command, file, kept in ("sheet", "examples/a.text", "line.sheet"), ("draw", "examples/a.sheet", "line.svg"):
+        status, shown = on_terminal([f"./{command}", file])
+        said = f"{command}: a terminal can't show it: write it to a file, as in ./{command} {file} >{kept}\r\nusage: "
+        yield f"{command}: a terminal as output", status == 2 and shown.startswith(said)
     status, shown = on_terminal(["./agree", "examples/a.sheet"])
     yield "agree: a listing on a terminal", (status, shown.replace("\r\n", "\n").encode()) == (0, LISTING)
 
