@@ -1,102 +1,22 @@
-//! The drawing: well formed, no text over another or over the edge, and every byte of the log in its cell.
+//! The drawing: well formed, no text over another or over the edge, every byte of the log in its cell, and
+//! above the rounds what came out.
 
+#[path = "drawings/claims.rs"]
+mod claims;
 mod common;
+#[path = "drawings/shown.rs"]
+mod shown;
 
+use std::collections::HashMap;
+
+use claims::Truth;
 use common::{header, Lot};
 use peer::draw::draw;
-use peer::listing::run;
+use peer::line::{Header, Part};
+use peer::listing::{run, Run};
+use peer::rehearsal::rehearse;
 use peer::sheet::{write, Record};
-
-/// An element's name and attributes, or a text's words.
-struct Element<'a> {
-    tag: &'a str,
-    words: &'a str,
-}
-
-impl<'a> Element<'a> {
-    fn attribute(&self, name: &str) -> &'a str {
-        let start = self.tag.find(&format!(" {name}=\"")).unwrap_or_else(|| panic!("{name} in {}", self.tag));
-        let value = &self.tag[start + name.len() + 3..];
-        &value[..value.find('"').unwrap()]
-    }
-
-    fn number(&self, name: &str) -> f64 {
-        self.attribute(name).parse().unwrap()
-    }
-}
-
-/// The elements in their order.
-fn elements(svg: &str) -> impl Iterator<Item = Element<'_>> {
-    svg.split('<').skip(1).map(|part| {
-        let (tag, words) = part.split_once('>').unwrap();
-        Element { tag, words }
-    })
-}
-
-/// Walks the drawing outside of its patterns and gives each element with its group's place.
-fn placed<'a>(svg: &'a str, mut take: impl FnMut(&Element<'a>, f64, f64)) {
-    let mut places = vec![(0.0, 0.0)];
-    let mut in_pattern = false;
-    for element in elements(svg) {
-        let (x, y) = *places.last().unwrap();
-        match element.tag.split_whitespace().next().unwrap() {
-            "g" => {
-                let moved = element.attribute("transform");
-                let moved = moved.strip_prefix("translate(").unwrap().strip_suffix(')').unwrap();
-                let (dx, dy) = moved.split_once(' ').unwrap();
-                places.push((x + dx.parse::<f64>().unwrap(), y + dy.parse::<f64>().unwrap()));
-            }
-            "/g" => drop(places.pop()),
-            "pattern" => in_pattern = true,
-            "/pattern" => in_pattern = false,
-            _ if !in_pattern => take(&element, x, y),
-            _ => {}
-        }
-    }
-    assert_eq!(places.len(), 1);
-}
-
-/// A box on the page: left, top, right, bottom.
-type Area = (f64, f64, f64, f64);
-
-/// Where a text stands, with letters as wide as a wide font has them.
-fn area(text: &Element, x: f64, y: f64) -> Area {
-    let size = text.number("font-size");
-    let letter = if text.attribute("font-weight") == "bold" { 0.70 } else { 0.64 };
-    let width = text.words.chars().count() as f64 * letter * size;
-    let (x, y) = (x + text.number("x"), y + text.number("y"));
-    let left = match text.attribute("text-anchor") {
-        "start" => x,
-        "middle" => x - width / 2.0,
-        _ => x - width,
-    };
-    (left, y - 0.75 * size, left + width, y + 0.22 * size)
-}
-
-fn apart(a: &Area, b: &Area) -> bool {
-    a.2 <= b.0 || b.2 <= a.0 || a.3 <= b.1 || b.3 <= a.1
-}
-
-/// Checks the texts of a drawing.
-fn texts_stand_clear(svg: &str) {
-    let page = elements(svg).next().unwrap();
-    let (width, height) = (page.number("width"), page.number("height"));
-    let mut texts: Vec<(Area, &str)> = Vec::new();
-    placed(svg, |element, x, y| {
-        if element.tag.starts_with("text ") {
-            let area = area(element, x, y);
-            assert!(
-                area.0 >= 0.0 && area.1 >= 0.0 && area.2 <= width && area.3 <= height,
-                "{}",
-                element.words
-            );
-            let over = texts.iter().find(|(other, _)| !apart(&area, other));
-            assert!(over.is_none(), "`{}` stands over `{}`", element.words, over.unwrap().1);
-            texts.push((area, element.words));
-        }
-    });
-    assert!(texts.len() > 20);
-}
+use shown::{apart, elements, shown, Area, Cells, Shown, Text};
 
 /// Every element that is opened is closed, in order.
 fn well_formed(svg: &str) {
@@ -114,21 +34,50 @@ fn well_formed(svg: &str) {
     assert!(open.is_empty() && !svg.contains("script"));
 }
 
-fn sheet_by_lot(lot: &mut Lot, n: u8) -> Vec<u8> {
-    let mut by_lot = lot.header(n);
-    while by_lot.n != n {
-        by_lot = lot.header(n);
+/// No text stands over another, over a grid or over the edge.
+fn texts_stand_clear(shown: &Shown) {
+    let grids: Vec<Area> = shown.cells.iter().map(Cells::area).collect();
+    for (place, text) in shown.texts.iter().enumerate() {
+        let Text { area, words, .. } = text;
+        let inside = area.0 >= 0.0 && area.1 >= 0.0 && area.2 <= shown.width && area.3 <= shown.height;
+        assert!(inside, "`{words}` stands over the edge");
+        let over = shown.texts[..place].iter().find(|other| !apart(area, &other.area));
+        assert!(over.is_none(), "`{words}` stands over `{}`", over.unwrap().words);
+        let in_cell = text.in_cells && words.parse::<u8>().is_ok();
+        assert!(in_cell || grids.iter().all(|grid| apart(area, grid)), "`{words}` stands over a grid");
     }
-    write(&by_lot, &lot.records(&by_lot))
+    assert!(shown.texts.len() > 20);
+}
+
+fn header_by_lot(lot: &mut Lot, n: u8) -> Header {
+    loop {
+        let by_lot = lot.header(n);
+        if by_lot.n == n {
+            return by_lot;
+        }
+    }
+}
+
+/// The run with this header of a table drawn by lot.
+fn run_by_lot(lot: &mut Lot, header: Header) -> Run {
+    let line = header.judge().unwrap();
+    let table = lot.table(&line);
+    let (mut log, mut outcomes) = (vec![0; line.table_len()], vec![0; line.outcomes_len()]);
+    rehearse(&header, &table, &mut log, &mut outcomes).unwrap();
+    Run { header, line, log, outcomes }
 }
 
 #[test]
 fn texts_of_every_n() {
     let mut lot = Lot(40);
     for n in 1..=32 {
-        let svg = draw(&run(&sheet_by_lot(&mut lot, n)).unwrap());
-        well_formed(&svg);
-        texts_stand_clear(&svg);
+        let by_lot = header_by_lot(&mut lot, n);
+        let from_sheet = draw(&run(&write(&by_lot, &lot.records(&by_lot))).unwrap());
+        let from_table = draw(&run_by_lot(&mut lot, by_lot));
+        for svg in [from_sheet, from_table] {
+            well_formed(&svg);
+            texts_stand_clear(&shown(&svg));
+        }
     }
 }
 
@@ -142,37 +91,235 @@ fn texts_of_the_largest_runs() {
             .collect();
         let svg = draw(&run(&write(&header(32, 10, 10, 32, 1, marks), &told)).unwrap());
         well_formed(&svg);
-        texts_stand_clear(&svg);
+        texts_stand_clear(&shown(&svg));
     }
 }
 
-/// The cells of the grids, read back from their fills, are the log's kinds of ballots.
+/// How a ballot byte is shown: its colour and symbol. A garbled one may have its number instead.
+fn look(byte: u8) -> (&'static str, String) {
+    match byte {
+        0 => ("#56b4e9", "0".to_string()),
+        1 => ("#e69f00", "1".to_string()),
+        2 => ("#f0e442", "\u{2013}".to_string()),
+        255 => ("#ececec", "\u{b7}".to_string()),
+        _ => ("#cc79a7", "\u{d7}".to_string()),
+    }
+}
+
+/// The cells of the grids, read back from their colours and from their symbols, are the log's ballots.
 #[test]
 fn cells_show_the_log() {
     let mut lot = Lot(41);
-    for n in [1, 4, 9, 32] {
-        let run = run(&sheet_by_lot(&mut lot, n)).unwrap();
+    for n in [1, 2, 4, 9, 16, 17, 32] {
+        let by_lot = header_by_lot(&mut lot, n);
+        let run = run_by_lot(&mut lot, by_lot);
         let svg = draw(&run);
-        let name = |byte: &u8| match byte {
-            0 => "zero",
-            1 => "one",
-            2 => "blank",
-            255 => "silence",
-            _ => "garbled",
-        };
-        let grids = svg.split("Round ").skip(1);
-        let mut shown: Vec<&str> = Vec::new();
-        for grid in grids {
-            let cells = elements(grid.split("<g ").nth(1).unwrap());
-            for cell in cells.filter(|element| element.tag.starts_with("rect")) {
-                let fill = cell.attribute("fill").trim_start_matches("url(#").trim_end_matches(')');
-                if fill.starts_with('#') || ["bad", "none"].contains(&fill) {
-                    continue;
+        let shown = shown(&svg);
+        assert_eq!(shown.cells.len(), usize::from(run.line.rounds()));
+        for (round, cells) in (1..).zip(&shown.cells) {
+            for from in run.line.stations() {
+                for to in run.line.stations() {
+                    let byte = run.log[run.line.place(round, from, to)];
+                    let ((colour, symbol), (shown_colour, shown_symbol)) = (look(byte), cells.at(from, to));
+                    assert_eq!(shown_colour, colour, "round {round} from {from} to {to}: {byte}");
+                    let number = cells.side >= 20.0 && symbol == "\u{d7}";
+                    let symbol = if number { byte.to_string() } else { symbol };
+                    assert_eq!(shown_symbol, symbol, "round {round} from {from} to {to}: {byte}");
                 }
-                let side = cell.number("height");
-                (0..(cell.number("width") / side) as usize).for_each(|_| shown.push(fill));
             }
         }
-        assert_eq!(shown, run.log.iter().map(name).collect::<Vec<_>>());
     }
+}
+
+/// Below the last grid stands each good station's value and grade.
+#[test]
+fn strips_show_the_outcomes() {
+    let mut lot = Lot(42);
+    for n in [1, 3, 8, 16, 17, 32] {
+        let by_lot = header_by_lot(&mut lot, n);
+        let run = run_by_lot(&mut lot, by_lot);
+        let svg = draw(&run);
+        let shown = shown(&svg);
+        let last = shown.cells.last().unwrap();
+        for (station, outcome) in run.line.stations().zip(run.outcomes.chunks_exact(3)) {
+            let strips = [last.strip(0, station), last.strip(1, station)];
+            if run.header.marks.bad(station) {
+                assert_eq!(strips, [None, None]);
+            } else {
+                assert_eq!(strips[0], Some(look(outcome[0])));
+                assert_eq!(strips[1].as_ref().unwrap().1, outcome[1].to_string());
+            }
+        }
+    }
+}
+
+/// The table above the rounds has every station's three bytes, and says who is bad.
+#[test]
+fn the_table_shows_the_outcomes() {
+    let mut lot = Lot(43);
+    for n in 1..=32 {
+        let by_lot = header_by_lot(&mut lot, n);
+        let run = run_by_lot(&mut lot, by_lot);
+        let svg = draw(&run);
+        let shown = shown(&svg);
+        let [stations, value, grade, flag] = ["station", "value decided", "grade (how sure)", "flag"]
+            .map(|label| shown.texts.iter().find(|text| text.words == label && text.area.0 < 30.0).unwrap());
+        let row = |label: &Text| -> Vec<&Text> {
+            let beside = |text: &&Text| (text.baseline - label.baseline).abs() < 6.0 && text.area.0 > 150.0;
+            shown.texts.iter().filter(beside).collect()
+        };
+        let numbers = row(stations);
+        assert_eq!(numbers.len(), run.line.n());
+        for ((station, number), outcome) in run.line.stations().zip(numbers).zip(run.outcomes.chunks_exact(3))
+        {
+            assert_eq!(number.words, station.to_string());
+            let below = |label| {
+                let words = |text: &&Text| (text.middle() - number.middle()).abs() < 10.0;
+                row(label).into_iter().find(words).map(|text| text.words)
+            };
+            if run.header.marks.bad(station) {
+                assert_eq!([value, grade, flag].map(below), [None, Some("bad"), None]);
+            } else {
+                let bytes = [0, 1, 2].map(|place| outcome[place].to_string());
+                assert_eq!([value, grade, flag].map(below), [0, 1, 2].map(|i| Some(bytes[i].as_str())));
+            }
+        }
+    }
+}
+
+/// A bad station's row is marked exactly if its bytes for others than itself differ; in grey where it
+/// should not speak.
+#[test]
+fn bytes_that_differ_are_marked() {
+    let mut lot = Lot(44);
+    let (mut marked, mut unmarked, mut grey) = (0, 0, 0);
+    for n in [1, 2, 3, 4, 9, 16, 17, 32] {
+        let by_lot = header_by_lot(&mut lot, n);
+        let sheet = write(&by_lot, &lot.records(&by_lot));
+        for run in [run(&sheet).unwrap(), run_by_lot(&mut lot, by_lot)] {
+            let svg = draw(&run);
+            let mut shown = shown(&svg);
+            for (round, cells) in (1..).zip(&shown.cells) {
+                for from in run.line.stations() {
+                    let row: Vec<u8> = run
+                        .line
+                        .stations()
+                        .filter(|&to| to != from)
+                        .map(|to| run.log[run.line.place(round, from, to)])
+                        .collect();
+                    let differ = run.header.marks.bad(from) && row.iter().any(|byte| *byte != row[0]);
+                    let mark = shown
+                        .texts
+                        .iter()
+                        .position(|text| text.words == "\u{2260}" && cells.beside(from, text));
+                    assert_eq!(mark.is_some(), differ, "round {round} from {from}: {row:?}");
+                    let Some(mark) = mark else {
+                        unmarked += 1;
+                        continue;
+                    };
+                    let speaks = match run.line.part(round) {
+                        Part::Sender => from == run.header.sender,
+                        Part::King(king) => from == king,
+                        Part::First | Part::Second => true,
+                    };
+                    assert_eq!(shown.texts[mark].colour == "#000000", speaks);
+                    shown.texts.remove(mark);
+                    (marked, grey) = (marked + 1, grey + u32::from(!speaks));
+                }
+            }
+            let left = shown.texts.iter().filter(|text| text.words == "\u{2260}").count();
+            assert_eq!(left, 1, "the legend's");
+        }
+    }
+    assert!(marked > 100 && unmarked > 100 && grey > 10);
+}
+
+/// The header's value leaves no trace where the sender is bad, and is told where it is good.
+#[test]
+fn a_bad_senders_value_is_not_shown() {
+    let mut lot = Lot(45);
+    let (mut bad, mut good) = (0, 0);
+    for _ in 0..60 {
+        let by_lot = lot.header(9);
+        let table = lot.word();
+        let [zero, one] = [0, 1].map(|value| draw(&run_by_lot(&mut Lot(table), Header { value, ..by_lot })));
+        let sender = by_lot.sender;
+        if by_lot.marks.bad(sender) {
+            bad += 1;
+            assert!(zero == one, "a value that was not sent is shown");
+            assert!(zero.contains(&format!("The sender, station {sender}, is bad")));
+        } else {
+            good += 1;
+            assert!(zero.contains(&format!("station {sender}, is good and sent 0: keep the old recipe.")));
+            assert!(one.contains(&format!("station {sender}, is good and sent 1: change over.")));
+        }
+    }
+    assert!(bad > 10 && good > 10);
+}
+
+/// Where a page of A4 ends, printed 190 mm wide and 277 mm high.
+const PAGE: f64 = 1000.0 * 277.0 / 190.0;
+
+/// A drawing is as wide as a page, its cells are at least 2.2 mm wide there, no round is cut by a page's
+/// end, and the outcome stands above all rounds on the first page.
+#[test]
+fn every_line_fits_a_page() {
+    for n in 1..=32u8 {
+        for (t, upper) in [(0, 0), (0, (n - 1) / 2), ((n - 1) / 3, (n - 1) / 3)] {
+            let svg = draw(&run(&write(&header(n, t, upper, 1, 0, 0), &[])).unwrap());
+            let shown = shown(&svg);
+            assert_eq!(shown.width, 1000.0);
+            assert!(svg.contains("@page{size:A4;margin:10mm}@media print{svg{width:190mm;height:auto}}"));
+            let first = shown.cells.iter().map(|cells| cells.area().1).fold(f64::MAX, f64::min);
+            for text in shown.texts.iter().filter(|text| text.size == 20.0 || text.words == "value decided") {
+                assert!(text.area.3 < first && text.area.3 < PAGE / 4.0, "`{}`", text.words);
+            }
+            for cells in &shown.cells {
+                let (left, top, right, bottom) = cells.area();
+                assert!(left > 0.0 && right < 1000.0 - 16.0 && bottom < shown.height);
+                assert!(cells.side * 0.19 >= 2.2, "n {n}");
+                assert_eq!(((top - 44.0) / PAGE).floor(), (bottom / PAGE).floor(), "n {n}, t {t}");
+            }
+        }
+    }
+}
+
+/// The same line's rounds are never one over another.
+#[test]
+fn rounds_stand_apart() {
+    for (n, t) in [(1, 0), (4, 1), (16, 5), (17, 5), (20, 6), (32, 10)] {
+        let svg = draw(&run(&write(&header(n, t, t, 1, 0, 0), &[])).unwrap());
+        let areas: Vec<Area> = shown(&svg).cells.iter().map(Cells::area).collect();
+        for (place, area) in areas.iter().enumerate() {
+            assert!(areas[..place].iter().all(|other| apart(area, other)), "n {n}, round {}", place + 1);
+        }
+    }
+}
+
+/// Every claim of the sentences above the rounds is true of the run, in runs of every kind.
+#[test]
+fn the_sentences_are_true() {
+    let mut lot = Lot(46);
+    let mut claims: HashMap<String, u32> = HashMap::new();
+    for turn in 0..3000 {
+        let most = lot.pick(&[1, 3, 5, 9]);
+        let by_lot = if turn % 2 == 0 { lot.header(most) } else { lot.header_near_thresholds(most).0 };
+        let run = run_by_lot(&mut lot, by_lot);
+        let svg = draw(&run);
+        let shown = shown(&svg);
+        let truth = Truth::of(&run);
+        let kinds = truth.check_outcome(&shown.joined(20.0, "#000000"));
+        let below = shown.joined(14.0, "#000000");
+        let (sender, promise) = below.split_once(". ").unwrap();
+        assert_eq!(sender.contains("is bad"), by_lot.marks.bad(by_lot.sender));
+        let promised = truth.check_promise(promise);
+        *claims.entry(format!("{} {}", kinds.0, kinds.1)).or_default() += 1;
+        *claims.entry(promised.to_string()).or_default() += 1;
+    }
+    for kind in ["differ", "all keep", "all change over"] {
+        for flags in ["no flag", "some flags", "every flag"] {
+            assert!(claims.contains_key(&format!("{kind} {flags}")), "{kind} {flags} of {claims:?}");
+        }
+    }
+    assert_eq!(claims.len(), 9 + 1 + 5, "{claims:?}");
 }

@@ -2,41 +2,63 @@
 
 use super::layout::{BAR, GAP, GUTTER, HEAD};
 use super::svg::Font;
-use super::{grade_fill, Drawing, Kind, BAD, HEADING};
-use crate::line::{Line, Part};
+use super::{Drawing, Kind, Look, GRADES, SMALL};
+use crate::line::Part;
 use crate::station::Station;
 
-/// A round's title.
-fn title(line: &Line, sender: u8, round: u8) -> String {
-    let phase = (round + 1) / 3;
-    let exchange = if phase == line.t() + 2 { "last exchange".to_string() } else { format!("phase {phase}") };
-    match line.part(round) {
-        Part::Sender => format!("Round 1: sender {sender}"),
-        Part::First => format!("Round {round}: {exchange}, first"),
-        Part::Second => format!("Round {round}: {exchange}, second"),
-        Part::King(king) => format!("Round {round}: phase {king}, king {king}"),
+/// Stands right of a bad station's row that has different bytes for other stations.
+pub const DIFFER: &str = "\u{2260}";
+
+/// Whether a station's row has different bytes for others than itself. Bytes that are read alike may differ.
+fn differs(from: u8, row: &[u8]) -> bool {
+    let others = (1..).zip(row).filter(|(to, _)| *to != from).map(|(_, byte)| byte);
+    others.clone().zip(others.skip(1)).any(|(byte, next)| byte != next)
+}
+
+/// The one station that should speak in a round; none where all should.
+fn speaker(sender: u8, part: Part) -> Option<u8> {
+    match part {
+        Part::Sender => Some(sender),
+        Part::King(king) => Some(king),
+        Part::First | Part::Second => None,
     }
 }
 
 impl Drawing<'_> {
     /// Draws a round with its title, grid and strips.
     pub fn round(&mut self, round: u8, after: &[Option<Station>]) {
-        let (line, sender) = (self.run.line, self.run.header.sender);
+        let line = self.run.line;
         let part = line.part(round);
         let (x, y) = self.layout.round_corner(round, part);
-        self.svg.text(x, y + 14, HEADING, &title(&line, sender, round));
+        self.svg.text(x, y + 14, SMALL, &self.round_title(round, part));
         self.svg.open(x + GUTTER, y + HEAD);
         self.borders();
+        self.svg.open_cells(self.layout.cell);
         for from in line.stations() {
             self.said(from, &self.run.log[line.place(round, from, 1)..][..line.n()]);
         }
-        match part {
-            Part::Sender => self.speaker(sender),
-            Part::King(king) => self.speaker(king),
-            Part::First | Part::Second => {}
-        }
+        self.svg.lattice(0, self.layout.cell, (line.n() as i32, line.n() as i32));
         self.strips(part, after);
         self.svg.close();
+        let speaker = speaker(self.run.header.sender, part);
+        if let Some(speaker) = speaker {
+            self.one_speaks(speaker);
+        }
+        self.marks(round, speaker);
+        self.svg.close();
+    }
+
+    /// A round's title. What a bad station should tell is not said of it.
+    fn round_title(&self, round: u8, part: Part) -> String {
+        let (sender, marks) = (self.run.header.sender, self.run.header.marks);
+        match part {
+            Part::Sender if marks.bad(sender) => format!("Round 1: sender {sender}, who is bad"),
+            Part::Sender => format!("Round 1: sender {sender} tells its value"),
+            Part::First => format!("Round {round}: all tell x"),
+            Part::Second => format!("Round {round}: all tell z"),
+            Part::King(king) if marks.bad(king) => format!("Round {round}: king {king}, who is bad"),
+            Part::King(king) => format!("Round {round}: king {king} tells its y"),
+        }
     }
 
     /// The stations' numbers above and left of the grid, with bars for the bad ones.
@@ -48,8 +70,8 @@ impl Drawing<'_> {
             self.svg.text(at + cell / 2, -BAR - 4, font.middle(), &number);
             self.svg.text(-BAR - 4, at + cell / 2 + font.drop(), font.end(), &number);
             if bad {
-                self.svg.rect(at, -BAR - 1, (cell - 1, BAR), BAD);
-                self.svg.rect(-BAR - 1, at, (BAR, cell - 1), BAD);
+                self.svg.hatched(at, -BAR - 1, (cell - 1, BAR));
+                self.svg.hatched(-BAR - 1, at, (BAR, cell - 1));
             }
         }
     }
@@ -57,12 +79,7 @@ impl Drawing<'_> {
     /// What one station said to each: a row of the grid.
     fn said(&mut self, from: u8, row: &[u8]) {
         let (cell, y) = (self.layout.cell, self.layout.at(from));
-        let mut x = 0;
-        for same in row.chunk_by(|&a, &b| Kind::of(a) == Kind::of(b)) {
-            let width = same.len() as i32 * cell;
-            self.svg.rect(x, y, (width, cell), &Kind::of(same[0]).fill());
-            x += width;
-        }
+        self.cells(y, row.iter().map(|&byte| Some(Kind::of(byte).looks())).collect());
         let font = Font::plain(cell * 2 / 5).middle();
         for (to, &byte) in (1..).zip(row) {
             if Kind::of(byte) == Kind::Garbled && self.numbers_fit() {
@@ -72,8 +89,34 @@ impl Drawing<'_> {
         }
     }
 
+    /// A row of cells, with none for a bad station.
+    fn cells(&mut self, y: i32, looks: Vec<Option<Look>>) {
+        let (cell, mut x) = (self.layout.cell, 0);
+        for same in looks.chunk_by(|a, b| a == b) {
+            let many = same.len() as i32;
+            match same[0] {
+                Some((colour, symbol)) => {
+                    self.svg.rect(x, y, (many * cell, cell), colour);
+                    self.symbols(x, y, many, symbol);
+                }
+                None => (0..many).for_each(|i| self.svg.hatched(x + i * cell, y, (cell - 1, cell - 1))),
+            }
+            x += many * cell;
+        }
+    }
+
+    /// The same symbol in so many cells. Where there is room, a garbled byte's number stands for it.
+    fn symbols(&mut self, x: i32, y: i32, many: i32, symbol: &str) {
+        let cell = self.layout.cell;
+        if symbol == Kind::Silence.looks().1 {
+            self.svg.dots(x, y, cell, many);
+        } else if symbol != Kind::Garbled.looks().1 || !self.numbers_fit() {
+            (0..many).for_each(|i| self.svg.symbol(x + i * cell, y, cell, symbol));
+        }
+    }
+
     /// Frames the one who should speak, and fades what bad stations say out of turn.
-    fn speaker(&mut self, speaker: u8) {
+    fn one_speaks(&mut self, speaker: u8) {
         let (cell, width) = (self.layout.cell, self.layout.grid());
         for station in self.run.line.stations() {
             if station != speaker && self.run.header.marks.bad(station) {
@@ -83,30 +126,53 @@ impl Drawing<'_> {
         self.svg.frame(0, self.layout.at(speaker), (width - 1, cell - 1));
     }
 
-    /// What the good stations hold after the round.
-    fn strips(&mut self, part: Part, after: &[Option<Station>]) {
-        let value = |station: &Station| Kind::of(station.value).fill();
-        match part {
-            Part::Sender | Part::King(_) => self.strip(0, "x", after, value),
-            Part::First => self.strip(0, "z", after, |station| Kind::of(station.z).fill()),
-            Part::Second => {
-                self.strip(0, "y", after, value);
-                self.strip(1, "grade", after, |station| grade_fill(station.grade));
+    /// Marks the bad stations that told others different bytes; in grey where it was out of turn.
+    fn marks(&mut self, round: u8, speaker: Option<u8>) {
+        let (line, cell) = (self.run.line, self.layout.cell);
+        let font = Font::plain(cell.min(16)).bold();
+        for from in line.stations().filter(|&from| self.run.header.marks.bad(from)) {
+            let row = &self.run.log[line.place(round, from, 1)..][..line.n()];
+            if differs(from, row) {
+                let font = if speaker.is_none_or(|one| one == from) { font } else { font.grey() };
+                let y = self.layout.at(from) + cell / 2 + font.drop();
+                self.svg.text(self.layout.grid() + 4, y, font, DIFFER);
             }
         }
     }
 
-    fn strip(&mut self, place: i32, name: &str, after: &[Option<Station>], fill: fn(&Station) -> String) {
-        let (cell, font) = (self.layout.cell, self.layout.number_font());
-        self.svg.open(0, self.layout.grid() + GAP + place * cell);
-        self.svg.text(-BAR - 4, cell / 2 + font.drop(), font.end(), name);
-        for (station, state) in (1..).zip(after) {
-            let x = self.layout.at(station);
-            match state {
-                Some(state) => self.svg.rect(x, 0, (cell, cell), &fill(state)),
-                None => self.svg.rect(x, 0, (cell - 1, cell - 1), BAD),
+    /// What the good stations hold after the round.
+    fn strips(&mut self, part: Part, after: &[Option<Station>]) {
+        let value = |station: &Station| Kind::of(station.value).looks();
+        match part {
+            Part::Sender | Part::King(_) => self.strip(0, "x", after, value),
+            Part::First => self.strip(0, "z", after, |station| Kind::of(station.z).looks()),
+            Part::Second => {
+                self.strip(0, "y", after, value);
+                self.strip(1, "grade", after, |station| GRADES[usize::from(station.grade)]);
             }
         }
-        self.svg.close();
+    }
+
+    fn strip(&mut self, place: i32, name: &str, after: &[Option<Station>], look: fn(&Station) -> Look) {
+        let (cell, font) = (self.layout.cell, self.layout.number_font());
+        let y = self.layout.grid() + GAP + place * cell;
+        self.svg.text(-BAR - 4, y + cell / 2 + font.drop(), font.end(), name);
+        self.cells(y, after.iter().map(|state| state.as_ref().map(look)).collect());
+        self.svg.lattice(y, cell, (after.len() as i32, 1));
+    }
+}
+
+#[cfg(test)]
+mod tests {
+    use super::differs;
+
+    #[test]
+    fn rows_that_differ() {
+        assert!(differs(1, &[255, 0, 1]));
+        assert!(differs(2, &[0, 0, 255]));
+        assert!(differs(4, &[7, 7, 8, 7]), "bytes that are read alike differ all the same");
+        assert!(!differs(1, &[255, 1, 1]), "its word to itself is nobody else's");
+        assert!(!differs(3, &[0, 0, 9]));
+        assert!(!differs(1, &[1, 1]) && !differs(1, &[5]));
     }
 }

@@ -1,43 +1,111 @@
 //! Where the parts of a drawing stand, by the number of stations and phases.
 //!
-//! Three panels a row: round 1 and the legend, then each phase with its king, then the last exchange and
-//! the outcome.
+//! The page is A4, upright. Above the rounds is the head, which begins with the outcome. Then come the
+//! blocks: round 1 with the legend beside it, each phase, the last exchange. The rounds of a block stand side
+//! by side where three grids fit the page's width, otherwise one below the other, with two blocks side by
+//! side. No block of rounds is cut by the end of a page.
 
 use super::svg::Font;
 use crate::line::{Line, Part};
 
+/// The page's width, which is 190 mm on paper.
+pub const WIDTH: i32 = 1000;
+pub const MARGIN: i32 = 24;
+/// The width between the margins.
+pub const INNER: i32 = WIDTH - 2 * MARGIN;
 /// Left of a grid: the senders' numbers and the bar of a bad one.
 pub const GUTTER: i32 = 44;
 /// Above a grid: the title, the receivers' numbers and the bar of a bad one.
-pub const HEAD: i32 = 44;
+pub const HEAD: i32 = 42;
 /// Between a grid and the strips below it.
 pub const GAP: i32 = 6;
 /// The bar of a bad station.
 pub const BAR: i32 = 4;
-pub const MARGIN: i32 = 20;
-pub const LEGEND_LINE: i32 = 26;
 
-/// Between panels.
-const SPACE: i32 = 26;
-/// Above the panels: what run it is.
-const TITLE: i32 = 70;
-const LEGEND_LINES: i32 = 6;
+/// Above a block: a rule and what the block is.
+const BLOCK_HEAD: i32 = 28;
+/// Between columns; a grid's marks stand there.
+const BETWEEN: i32 = 24;
+/// Below a panel.
+const BELOW: i32 = 14;
+/// The largest cell.
+const MOST_CELL: i32 = 21;
+/// The least height of round 1's band, which has the legend.
+const LEGEND: i32 = 206;
+/// The most stations of a line whose rounds stand three in a row.
+const MOST_ACROSS: i32 = 16;
+
+/// Where a page begins: 277 mm, as 1000 is 190 mm.
+fn page_top(page: i32) -> i32 {
+    (page * 277 * WIDTH + 189) / 190
+}
+
+/// The page that a line of the drawing is on, counted from 0.
+fn page(y: i32) -> i32 {
+    y * 190 / (277 * WIDTH)
+}
 
 pub struct Layout {
     n: i32,
-    t: i32,
+    /// The last block, which is the last exchange: block 0 is round 1, block p phase p.
+    last: i32,
     /// The side of a cell.
     pub cell: i32,
+    /// Where each band of blocks begins, and where the last one ends.
+    tops: Vec<i32>,
 }
 
 impl Layout {
-    pub fn new(line: &Line) -> Layout {
-        let cell = match line.n() {
-            0..=8 => 24,
-            9..=16 => 18,
-            _ => 15,
+    /// The layout below a head that ends here.
+    pub fn new(line: &Line, head: i32) -> Layout {
+        let n = line.n() as i32;
+        let (columns, by_height) = if n <= MOST_ACROSS {
+            (3, page_top(1) / 4 - BLOCK_HEAD)
+        } else {
+            (2, (page_top(1) - BLOCK_HEAD) / 3)
         };
-        Layout { n: line.n() as i32, t: i32::from(line.t()), cell }
+        let by_width = (column_width(columns) - GUTTER) / n;
+        let by_height = (by_height - HEAD - GAP - BELOW) / (n + 2);
+        let cell = by_width.min(by_height).min(MOST_CELL);
+        let mut layout = Layout { n, last: i32::from(line.t()) + 2, cell, tops: Vec::new() };
+        layout.tops = layout.tops(head);
+        layout
+    }
+
+    /// Whether the rounds of a block stand side by side.
+    fn across(&self) -> bool {
+        self.n <= MOST_ACROSS
+    }
+
+    /// Bands one below the other; one that would be cut by a page's end begins on the next page.
+    fn tops(&self, head: i32) -> Vec<i32> {
+        let mut tops = vec![head];
+        for band in 0..=self.band(self.last) {
+            let (top, height) = (tops[tops.len() - 1], self.band_height(band));
+            let top = if page(top) == page(top + height) { top } else { page_top(page(top) + 1) };
+            tops.pop();
+            tops.extend([top, top + height]);
+        }
+        tops
+    }
+
+    fn band(&self, block: i32) -> i32 {
+        if self.across() {
+            block
+        } else {
+            (block + 1) / 2
+        }
+    }
+
+    fn band_height(&self, band: i32) -> i32 {
+        let panels = match band {
+            0 => 1,
+            _ if self.across() => 1,
+            _ if 2 * band - 1 == self.last => 2,
+            _ => 3,
+        };
+        let least = if band == 0 { LEGEND } else { 0 };
+        least.max(BLOCK_HEAD + panels * self.panel_height())
     }
 
     /// The side of a grid.
@@ -50,65 +118,81 @@ impl Layout {
         (i32::from(station) - 1) * self.cell
     }
 
-    /// The height of a line in the outcome's table.
-    pub fn table_line(&self) -> i32 {
-        self.cell.max(18)
-    }
-
-    /// The stations' numbers beside a grid.
+    /// The stations' numbers beside a grid. Two digits fit a cell's width.
     pub fn number_font(&self) -> Font {
         Font::plain(match self.cell {
-            24.. => 12,
-            18.. => 11,
-            _ => 9,
+            18.. => 12,
+            15.. => 10,
+            _ => 8,
         })
-    }
-
-    fn panel_width(&self) -> i32 {
-        (GUTTER + self.grid()).max(270) + SPACE
     }
 
     /// A panel has room for two strips below its grid.
     fn panel_height(&self) -> i32 {
-        HEAD + self.grid() + GAP + 2 * self.cell + SPACE
+        HEAD + self.grid() + GAP + 2 * self.cell + BELOW
     }
 
-    fn first_row_height(&self) -> i32 {
-        self.panel_height().max(HEAD + LEGEND_LINES * LEGEND_LINE + SPACE)
-    }
-
-    fn last_row_height(&self) -> i32 {
-        self.panel_height().max(HEAD + self.n * self.table_line() + 24 + SPACE)
-    }
-
-    /// The left top corner of the panel in this column and row, both counted from 0.
-    fn corner(&self, column: i32, row: i32) -> (i32, i32) {
-        let above = if row == 0 { 0 } else { self.first_row_height() + (row - 1) * self.panel_height() };
-        (MARGIN + column * self.panel_width(), TITLE + above)
-    }
-
-    pub fn round_corner(&self, round: u8, part: Part) -> (i32, i32) {
-        let phase = i32::from(round + 1) / 3;
-        match part {
-            Part::Sender => self.corner(0, 0),
-            Part::First => self.corner(0, phase),
-            Part::Second => self.corner(1, phase),
-            Part::King(king) => self.corner(2, i32::from(king)),
+    fn columns(&self) -> i32 {
+        if self.across() {
+            3
+        } else {
+            2
         }
     }
 
-    /// The legend's two columns.
-    pub fn legend_corners(&self) -> [(i32, i32); 2] {
-        [self.corner(1, 0), self.corner(2, 0)]
+    /// Where a column begins, counted from 0.
+    fn column(&self, column: i32) -> i32 {
+        MARGIN + column * (column_width(self.columns()) + BETWEEN)
     }
 
-    pub fn outcome_corner(&self) -> (i32, i32) {
-        self.corner(2, self.t + 2)
+    /// The left top corner of a block's heading, and its width.
+    pub fn block(&self, block: u8) -> (i32, i32, i32) {
+        let block = i32::from(block);
+        let (column, width) = match (block, self.across()) {
+            (0, _) => (0, column_width(self.columns())),
+            (_, true) => (0, INNER),
+            (_, false) => ((block + 1) % 2, column_width(2)),
+        };
+        (self.column(column), self.tops[self.band(block) as usize], width)
+    }
+
+    pub fn round_corner(&self, round: u8, part: Part) -> (i32, i32) {
+        let step = match part {
+            Part::Sender | Part::First => 0,
+            Part::Second => 1,
+            Part::King(_) => 2,
+        };
+        let phase = match part {
+            Part::Sender => 0,
+            Part::King(king) => king,
+            Part::First | Part::Second => (round + 1) / 3,
+        };
+        let (x, y, _) = self.block(phase);
+        if self.across() {
+            (self.column(step), y + BLOCK_HEAD)
+        } else {
+            (x, y + BLOCK_HEAD + step * self.panel_height())
+        }
+    }
+
+    /// The legend's corner and width: all that is right of round 1.
+    pub fn legend(&self) -> (i32, i32, i32) {
+        let (x, (_, y, _)) = (self.column(1), self.block(0));
+        (x, y, MARGIN + INNER - x)
+    }
+
+    /// How many columns the legend has.
+    pub fn legend_columns(&self) -> i32 {
+        self.columns() - 1
     }
 
     /// The whole drawing's width and height.
     pub fn size(&self) -> (i32, i32) {
-        let (right, bottom) = (self.corner(3, 0).0, self.corner(0, self.t + 2).1);
-        (right - SPACE + MARGIN, bottom + self.last_row_height() - SPACE + MARGIN)
+        (WIDTH, self.tops[self.tops.len() - 1] + MARGIN - BELOW)
     }
+}
+
+/// The width of a column where there are so many.
+fn column_width(columns: i32) -> i32 {
+    (INNER - (columns - 1) * BETWEEN) / columns
 }

@@ -1,59 +1,110 @@
-//! What the colours, symbols and marks mean.
+//! What the colours, symbols and marks of a grid mean.
 
-use super::layout::{HEAD, LEGEND_LINE};
-use super::{grade_fill, Drawing, Kind, BAD, HEADING, SMALL};
+use super::grid::DIFFER;
+use super::layout::HEAD;
+use super::svg::Font;
+use super::words::lines;
+use super::{Drawing, Kind, GRADES, SMALL};
 
-/// Where an entry's words begin.
-const WORDS: i32 = 34;
+/// The side of an entry's sample, and where its words begin.
+const SIDE: i32 = 20;
+const WORDS: i32 = 30;
+const LINE: i32 = 25;
+/// The width of the first of two columns.
+const FIRST: i32 = 252;
 
-fn meaning(kind: Kind) -> &'static str {
-    match kind {
-        Kind::Zero => "0: keep the old recipe",
-        Kind::One => "1: change over",
-        Kind::Blank => "2: blank",
-        Kind::Silence => "255: silence",
-        Kind::Garbled => "any other byte: garbled",
+/// An entry: a sample and its meaning.
+#[derive(Clone, Copy)]
+enum Entry {
+    Byte(Kind),
+    Bad,
+    Framed,
+    Faded,
+    Differ,
+    Grades,
+}
+
+const ENTRIES: [Entry; 10] = [
+    Entry::Byte(Kind::Zero),
+    Entry::Byte(Kind::One),
+    Entry::Byte(Kind::Blank),
+    Entry::Byte(Kind::Silence),
+    Entry::Byte(Kind::Garbled),
+    Entry::Bad,
+    Entry::Differ,
+    Entry::Framed,
+    Entry::Faded,
+    Entry::Grades,
+];
+
+fn meaning(entry: Entry) -> &'static str {
+    match entry {
+        Entry::Byte(Kind::Zero) => "0: keep the old recipe",
+        Entry::Byte(Kind::One) => "1: change over",
+        Entry::Byte(Kind::Blank) => "2: blank",
+        Entry::Byte(Kind::Silence) => "255: silence",
+        Entry::Byte(Kind::Garbled) => "any other byte: garbled",
+        Entry::Bad => "bad station: may say anything",
+        Entry::Framed => "framed: the one who should speak",
+        Entry::Faded => "faded: out of turn, without effect",
+        Entry::Differ => "a bad one told others different bytes",
+        Entry::Grades => "grades",
     }
 }
 
 impl Drawing<'_> {
+    /// The legend, beside round 1.
     pub fn legend(&mut self) {
-        let [(x, y), (right, _)] = self.layout.legend_corners();
-        self.svg.text(x, y + 14, HEADING, "A row is what one station says");
-        self.svg.text(right, y + 14, HEADING, "A column is what one hears");
-        self.svg.open(x, y + HEAD - 18);
-        for (line, kind) in (0..).zip(Kind::ALL) {
-            self.entry(line, &kind.fill(), meaning(kind));
+        let (x, y, width) = self.layout.legend();
+        self.heading((x, y, width), "How to read a round");
+        let words =
+            "A row is what one station says, a column what one hears. Below a grid is what each good \
+                     station holds after the round.";
+        self.svg.open(x, y + HEAD);
+        let mut top = 0;
+        for line in lines(words, SMALL, width) {
+            self.svg.text(0, top, SMALL, &line);
+            top += 18;
         }
-        self.entry(5, BAD, "bad station");
-        self.svg.close();
-        self.svg.open(right, y + HEAD - 18);
-        self.marks();
+        let first = if self.layout.legend_columns() == 2 { 5 } else { ENTRIES.len() };
+        for (place, entry) in (0..).zip(ENTRIES) {
+            let column = if place < first { 0 } else { FIRST };
+            self.svg.open(column, top + (place % first) as i32 * LINE);
+            self.entry(entry);
+            self.svg.close();
+        }
         self.svg.close();
     }
 
-    /// The legend's second column.
-    fn marks(&mut self) {
-        let cell = self.layout.cell;
-        self.entry(0, &Kind::One.fill(), "framed: the one who should speak");
-        self.svg.frame(0, 0, (cell - 1, cell - 1));
-        self.entry(1, &Kind::One.fill(), "faded: out of turn, no effect");
-        self.svg.veil(0, LEGEND_LINE, (cell, cell));
-        self.svg.open(0, 2 * LEGEND_LINE);
-        for grade in 0..3 {
-            self.svg.rect(i32::from(grade) * cell, 0, (cell, cell), &grade_fill(grade));
+    fn entry(&mut self, entry: Entry) {
+        let mut words = WORDS;
+        match entry {
+            Entry::Byte(kind) => self.sample(kind),
+            Entry::Bad => self.svg.hatched(0, 0, (SIDE - 1, SIDE - 1)),
+            Entry::Framed => {
+                self.sample(Kind::One);
+                self.svg.frame(0, 0, (SIDE - 1, SIDE - 1));
+            }
+            Entry::Faded => {
+                self.sample(Kind::One);
+                self.svg.veil(0, 0, (SIDE, SIDE));
+            }
+            Entry::Differ => {
+                let font = Font::plain(16).bold().middle();
+                self.svg.text(SIDE / 2, SIDE / 2 + font.drop(), font, DIFFER);
+            }
+            Entry::Grades => {
+                for (place, (colour, symbol)) in (0..).zip(GRADES) {
+                    self.svg.square(place * SIDE, 0, SIDE, colour, symbol);
+                }
+                words += 2 * SIDE;
+            }
         }
-        self.svg.text(3 * cell + 8, cell / 2 + SMALL.drop(), SMALL, "grades 0, 1 and 2");
-        self.svg.close();
-        self.svg.text(0, 3 * LEGEND_LINE + 16, SMALL, "Below a grid: what each good station");
-        self.svg.text(0, 4 * LEGEND_LINE + 8, SMALL, "holds after it, x, z, or y and grade.");
+        self.svg.text(words, SIDE / 2 + SMALL.drop(), SMALL, meaning(entry));
     }
 
-    fn entry(&mut self, line: i32, fill: &str, words: &str) {
-        let cell = self.layout.cell;
-        self.svg.open(0, line * LEGEND_LINE);
-        self.svg.rect(0, 0, (cell - 1, cell - 1), fill);
-        self.svg.text(WORDS, cell / 2 + SMALL.drop(), SMALL, words);
-        self.svg.close();
+    fn sample(&mut self, kind: Kind) {
+        let (colour, symbol) = kind.looks();
+        self.svg.square(0, 0, SIDE, colour, symbol);
     }
 }

@@ -1,22 +1,25 @@
-//! A drawing of one run: for each round a grid of who said what to whom, then the outcome.
+//! A drawing of one run on a page's width: what came out, what the letters mean, then for each round a grid
+//! of who said what to whom.
 
 mod grid;
+mod head;
 mod layout;
 mod legend;
+mod meanings;
 mod outcome;
 mod svg;
+mod verdict;
+mod words;
 
 use crate::line::Header;
 use crate::listing::Run;
 use crate::station::Station;
-use crate::text::list_text;
-use layout::{Layout, MARGIN};
+use layout::Layout;
 use svg::{Font, Svg};
 
-const SMALL: Font = Font::plain(12);
-const HEADING: Font = Font::plain(13).bold();
-/// The fill of what belongs to a bad station.
-const BAD: &str = "url(#bad)";
+const BODY: Font = Font::plain(14);
+const SMALL: Font = Font::plain(13);
+const HEADING: Font = Font::plain(14).bold();
 
 /// A drawing in the making.
 struct Drawing<'a> {
@@ -36,8 +39,6 @@ enum Kind {
 }
 
 impl Kind {
-    const ALL: [Kind; 5] = [Kind::Zero, Kind::One, Kind::Blank, Kind::Silence, Kind::Garbled];
-
     fn of(byte: u8) -> Kind {
         match byte {
             0 => Kind::Zero,
@@ -48,28 +49,23 @@ impl Kind {
         }
     }
 
-    /// The fill's name, its colour and its symbol. The colours are of the Okabe and Ito palette.
-    fn looks(self) -> (&'static str, &'static str, &'static str) {
+    /// Its colour, of the Okabe and Ito palette, and its symbol.
+    fn looks(self) -> Look {
         match self {
-            Kind::Zero => ("zero", "#56b4e9", "0"),
-            Kind::One => ("one", "#e69f00", "1"),
-            Kind::Blank => ("blank", "#f0e442", "\u{2013}"),
-            Kind::Silence => ("silence", "#ececec", "\u{b7}"),
-            Kind::Garbled => ("garbled", "#cc79a7", "\u{d7}"),
+            Kind::Zero => ("#56b4e9", "0"),
+            Kind::One => ("#e69f00", "1"),
+            Kind::Blank => ("#f0e442", "\u{2013}"),
+            Kind::Silence => ("#ececec", "\u{b7}"),
+            Kind::Garbled => ("#cc79a7", "\u{d7}"),
         }
     }
-
-    fn fill(self) -> String {
-        format!("url(#{})", self.looks().0)
-    }
 }
 
-/// The names and colours of the fills for grades 0, 1 and 2.
-const GRADES: [(&str, &str); 3] = [("grade0", "#f6f6f6"), ("grade1", "#d0d0d0"), ("grade2", "#a6a6a6")];
+/// A cell's colour and symbol.
+type Look = (&'static str, &'static str);
 
-fn grade_fill(grade: u8) -> String {
-    format!("url(#{})", GRADES[usize::from(grade)].0)
-}
+/// How grades 0, 1 and 2 are shown.
+const GRADES: [Look; 3] = [("#f0f0f0", "0"), ("#d0d0d0", "1"), ("#a6a6a6", "2")];
 
 /// Each station's state after each round; none for a bad one.
 fn states(run: &Run) -> Vec<Vec<Option<Station>>> {
@@ -89,49 +85,42 @@ fn states(run: &Run) -> Vec<Vec<Option<Station>>> {
 }
 
 impl Drawing<'_> {
-    /// The fills, which all have the size of a cell.
-    fn fills(&mut self) {
-        for kind in Kind::ALL {
-            let (id, colour, symbol) = kind.looks();
-            let symbol = if kind == Kind::Garbled && self.numbers_fit() { "" } else { symbol };
-            self.svg.tile(id, self.layout.cell, colour, symbol);
-        }
-        for ((id, colour), grade) in GRADES.iter().zip(["0", "1", "2"]) {
-            self.svg.tile(id, self.layout.cell, colour, grade);
-        }
-        self.svg.hatch("bad");
-    }
-
     /// Whether cells are wide enough for a garbled byte's number.
     fn numbers_fit(&self) -> bool {
-        self.layout.cell >= 24
+        self.layout.cell >= 20
     }
 
-    fn title(&mut self) {
-        let Header { n, t, upper, sender, value, marks } = self.run.header;
-        let rounds = self.run.line.rounds();
-        let words = format!("n {n}, t {t}, T {upper}, sender {sender}, value {value}, {rounds} rounds");
-        self.svg.text(MARGIN, 32, Font::plain(18).bold(), &words);
-        let bad: Vec<u8> = self.run.line.stations().filter(|&station| marks.bad(station)).collect();
-        let words = match bad.len() {
-            0 => "no bad station".to_string(),
-            f => format!("bad: {} (f {f})", list_text(&bad)),
-        };
-        self.svg.text(MARGIN, 52, SMALL, &words);
+    /// A rule and the words below it.
+    fn heading(&mut self, (x, y, width): (i32, i32, i32), words: &str) {
+        self.svg.rect(x, y, (width, 1), "#999999");
+        self.svg.text(x, y + 20, HEADING, words);
+    }
+
+    /// The headings of the blocks: round 1, each phase, the last exchange.
+    fn headings(&mut self) {
+        let kings = self.run.line.t() + 1;
+        self.heading(self.layout.block(0), "The sender speaks");
+        for phase in 1..=kings {
+            let bad = if self.run.header.marks.bad(phase) { ", who is bad" } else { "" };
+            self.heading(
+                self.layout.block(phase),
+                &format!("Phase {phase}: the king is station {phase}{bad}"),
+            );
+        }
+        self.heading(self.layout.block(kings + 1), "Last exchange: y is the value decided");
     }
 }
 
 /// The drawing of a run, as SVG.
 pub fn draw(run: &Run) -> String {
-    let layout = Layout::new(&run.line);
-    let svg = Svg::new(layout.size(), "A run of the broadcast, round by round");
+    let mut svg = Svg::default();
+    let layout = Layout::new(&run.line, head::head(&mut svg, run));
+    let size = layout.size();
     let mut drawing = Drawing { run, layout, svg };
-    drawing.fills();
-    drawing.title();
     drawing.legend();
+    drawing.headings();
     for (round, after) in (1..).zip(states(run)) {
         drawing.round(round, &after);
     }
-    drawing.outcome();
-    drawing.svg.finish()
+    drawing.svg.finish(size, "A rehearsal: what came out, and each round")
 }

@@ -1,56 +1,58 @@
-//! The outcome: value, grade and flag of each station.
+//! The table of outcomes: value, grade and flag of each station.
 
-use super::layout::{BAR, GUTTER, HEAD};
-use super::svg::Font;
-use super::{grade_fill, Drawing, Kind, BAD, HEADING, SMALL};
+use super::layout::MARGIN;
+use super::svg::{Font, Svg};
+use super::{Kind, GRADES, SMALL};
+use crate::listing::Run;
 
-/// Where the three columns begin.
-const COLUMNS: [i32; 3] = [0, 60, 120];
+/// The side of a cell. 32 of them have room beside the labels.
+const CELL: i32 = 24;
+/// Where the stations' columns begin.
+const LABELS: i32 = 160;
+/// The rows, with the stations' numbers first.
+const ROWS: [&str; 4] = ["station", "value decided", "grade (how sure)", "flag"];
 
-impl Drawing<'_> {
-    pub fn outcome(&mut self) {
-        let (x, y) = self.layout.outcome_corner();
-        self.svg.text(x, y + 14, HEADING, "Outcome");
-        self.svg.open(x + GUTTER, y + HEAD);
-        for (column, name) in COLUMNS.iter().zip(["value", "grade", "flag"]) {
-            self.svg.text(*column, -8, SMALL, name);
-        }
-        for (station, outcome) in self.run.line.stations().zip(self.run.outcomes.chunks_exact(3)) {
-            self.svg.open(0, (i32::from(station) - 1) * self.layout.table_line());
-            self.station(station, [outcome[0], outcome[1], outcome[2]]);
-            self.svg.close();
-        }
-        self.summary();
-        self.svg.close();
+/// Draws the table below y and gives where it ends.
+pub fn table(svg: &mut Svg, run: &Run, y: i32) -> i32 {
+    for (row, label) in (0..).zip(ROWS) {
+        svg.text(MARGIN, y + row * CELL + middle(SMALL), SMALL, label);
     }
-
-    fn station(&mut self, station: u8, [value, grade, flag]: [u8; 3]) {
-        let cell = self.layout.cell;
-        let (bad, baseline) = (self.run.header.marks.bad(station), cell / 2 + SMALL.drop());
-        let number = if bad { SMALL.bold() } else { SMALL };
-        self.svg.text(-BAR - 4, baseline, number.end(), &station.to_string());
+    for (station, outcome) in run.line.stations().zip(run.outcomes.chunks_exact(3)) {
+        svg.open(MARGIN + LABELS + (i32::from(station) - 1) * CELL, y);
+        let bad = run.header.marks.bad(station);
+        let font = if bad { SMALL.bold() } else { SMALL };
+        svg.text(CELL / 2, middle(font), font.middle(), &station.to_string());
         if bad {
-            self.svg.rect(-BAR - 1, 0, (BAR, cell - 1), BAD);
-            COLUMNS.iter().for_each(|&x| self.svg.text(x + cell / 2, baseline, SMALL.middle(), "\u{2013}"));
-            return;
+            bad_station(svg);
+        } else {
+            good_station(svg, outcome);
         }
-        for (column, fill) in COLUMNS.iter().zip([Kind::of(value).fill(), grade_fill(grade)]) {
-            self.svg.open(*column, 0);
-            self.svg.rect(0, 0, (cell, cell), &fill);
-            self.svg.close();
-        }
-        let font = if flag == 1 { SMALL.bold() } else { SMALL };
-        self.svg.text(COLUMNS[2] + cell / 2, baseline, font.middle(), &flag.to_string());
-        if flag == 1 {
-            self.svg.flag(COLUMNS[2] + cell + 4, cell / 2 - 6);
-        }
+        svg.close();
     }
+    y + 4 * CELL
+}
 
-    /// How many good stations decide 0 and 1, and how many raise their flags.
-    fn summary(&mut self) {
-        let count = |at: usize, byte: u8| self.run.outcomes.chunks_exact(3).filter(|o| o[at] == byte).count();
-        let words = format!("{} decide 0, {} decide 1, {} flags", count(0, 0), count(0, 1), count(2, 1));
-        let y = self.run.line.n() as i32 * self.layout.table_line() + 18;
-        self.svg.text(0, y, Font::plain(12), &words);
+/// How far below a cell's top the base line of its text stands.
+const fn middle(font: Font) -> i32 {
+    CELL / 2 + font.drop()
+}
+
+fn good_station(svg: &mut Svg, outcome: &[u8]) {
+    let (colour, symbol) = Kind::of(outcome[0]).looks();
+    svg.square(0, CELL, CELL, colour, symbol);
+    let (colour, symbol) = GRADES[usize::from(outcome[1])];
+    svg.square(0, 2 * CELL, CELL, colour, symbol);
+    if outcome[2] == 1 {
+        svg.text(7, 3 * CELL + middle(SMALL), SMALL.bold().middle(), "1");
+        svg.flag(12, 3 * CELL + 6);
+    } else {
+        svg.text(CELL / 2, 3 * CELL + middle(SMALL), SMALL.middle(), "0");
     }
+}
+
+fn bad_station(svg: &mut Svg) {
+    let font = Font::plain(11).middle();
+    svg.hatched(0, CELL, (CELL - 1, 3 * CELL - 1));
+    svg.rect(0, 2 * CELL, (CELL - 1, CELL - 1), "#ffffff");
+    svg.text(CELL / 2, 2 * CELL + middle(font), font, "bad");
 }

@@ -1,0 +1,225 @@
+//! What came out of a run, in a planner's words.
+
+use super::words::{begun, count};
+use crate::line::Line;
+use crate::listing::Run;
+use crate::text::list_text;
+
+/// What the sentences about a run are made of.
+pub struct Verdict {
+    line: Line,
+    sender: u8,
+    /// What the sender sent; none where it is bad, since then it may have told each station another thing.
+    sent: Option<u8>,
+    bad: Vec<u8>,
+    /// How many good stations decide 0, and how many 1.
+    decide: [usize; 2],
+    /// How many good stations flag.
+    flags: usize,
+}
+
+/// What stations with this value do.
+fn does(value: u8, stations: usize) -> &'static str {
+    match (value, stations) {
+        (0, 1) => "keeps the old recipe",
+        (0, _) => "keep the old recipe",
+        (_, 1) => "changes over",
+        _ => "change over",
+    }
+}
+
+impl Verdict {
+    pub fn of(run: &Run) -> Verdict {
+        let (line, header) = (run.line, &run.header);
+        let is_bad = |&station: &u8| header.marks.bad(station);
+        let good = line.stations().zip(run.outcomes.chunks_exact(3)).filter(|(station, _)| !is_bad(station));
+        let good: Vec<&[u8]> = good.map(|(_, outcome)| outcome).collect();
+        let deciding = |value| good.iter().filter(|outcome| outcome[0] == value).count();
+        Verdict {
+            line,
+            sender: header.sender,
+            sent: Some(header.value).filter(|_| !is_bad(&header.sender)),
+            bad: line.stations().filter(is_bad).collect(),
+            decide: [deciding(0), deciding(1)],
+            flags: good.iter().filter(|outcome| outcome[2] == 1).count(),
+        }
+    }
+
+    fn good(&self) -> usize {
+        self.decide[0] + self.decide[1]
+    }
+
+    /// What the good stations decide, who of them flags, and what a flag proves.
+    pub fn outcome(&self) -> String {
+        match (self.decide, self.line.n()) {
+            ([0, 0], 1) => "The one station is bad: there is no outcome.".to_string(),
+            ([0, 0], n) => format!("All {} stations are bad: there is no outcome.", count(n)),
+            ([0, good], _) => format!("{} {}{}.", self.all_good(), does(1, good), self.flagging()),
+            ([good, 0], _) => format!("{} {}{}.", self.all_good(), does(0, good), self.flagging()),
+            ([zeros, ones], _) => format!(
+                "The {} good stations differ{}. {} {}, {} {}.",
+                count(zeros + ones),
+                self.flagging(),
+                begun(&count(ones)),
+                does(1, ones),
+                count(zeros),
+                does(0, zeros)
+            ),
+        }
+    }
+
+    fn all_good(&self) -> String {
+        match self.good() {
+            1 => "The one good station".to_string(),
+            2 => "Both good stations".to_string(),
+            good => format!("All {} good stations", count(good)),
+        }
+    }
+
+    /// Who flags. A good station's flag proves that more than t are bad.
+    fn flagging(&self) -> String {
+        let who = match (self.flags, self.good()) {
+            (0, 1) => return " and does not flag".to_string(),
+            (0, 2) => return ", and neither flags".to_string(),
+            (0, _) => return ", and none flags".to_string(),
+            (1, 1) => " and flags".to_string(),
+            (2, 2) => ", and both flag".to_string(),
+            (flags, good) if flags == good => ", and every one flags".to_string(),
+            (1, _) => ", and one of them flags".to_string(),
+            (flags, _) => format!(", and {} of them flag", count(flags)),
+        };
+        format!("{who}: more than t = {} are bad", self.line.t())
+    }
+
+    /// Whether the sender is good, and only then what it sent.
+    pub fn sender(&self) -> String {
+        let sender = self.sender;
+        match self.sent {
+            Some(0) => format!("The sender, station {sender}, is good and sent 0: keep the old recipe."),
+            Some(_) => format!("The sender, station {sender}, is good and sent 1: change over."),
+            None => format!("The sender, station {sender}, is bad: what it told each station is in round 1."),
+        }
+    }
+
+    /// Who is bad, and what is promised of a line with so many bad stations.
+    pub fn promise(&self) -> String {
+        let (t, upper, f) = (self.line.t(), self.line.upper(), self.bad.len());
+        let (over_t, over_upper) = (f > usize::from(t), f > usize::from(upper));
+        let so_many = match (over_t, over_upper) {
+            _ if f == 0 => String::new(),
+            (false, _) => format!(", no more than t = {t}"),
+            (true, false) => format!(", more than t = {t} but no more than T = {upper}"),
+            (_, true) => format!(", more than T = {upper}"),
+        };
+        let promised = match (over_t, over_upper, self.sent.is_some()) {
+            (false, _, true) => "every good one decides what the sender sent, and none flags",
+            (false, _, false) => "the good ones decide alike, and none flags",
+            (true, false, true) => "every good one decides what the sender sent, but may flag",
+            (true, false, false) => "the good ones differ only if every one of them flags",
+            (_, true, _) => "nothing is promised of such a run",
+        };
+        format!("{}{so_many}: {promised}.", self.who_is_bad())
+    }
+
+    fn who_is_bad(&self) -> String {
+        match (&self.bad[..], self.line.n()) {
+            ([], _) => "No station is bad (f = 0)".to_string(),
+            ([one], _) => format!("Station {one} is bad (f = 1)"),
+            (all, n) if all.len() == n => format!("Every station is bad (f = {n})"),
+            (some, _) => {
+                format!("Stations {} are bad (f = {})", list_text(some).replace(' ', ", "), some.len())
+            }
+        }
+    }
+}
+
+#[cfg(test)]
+mod tests {
+    use super::*;
+
+    /// A line of 9 stations, t 1 and T 3, of which so many decide 0 and 1 and flag; the rest are bad.
+    fn of_nine(zeros: usize, ones: usize, flags: usize) -> Verdict {
+        let bad = (1..=9 - (zeros + ones) as u8).collect();
+        let line = Line::new(9, 1, 3).unwrap();
+        Verdict { line, sender: 9, sent: Some(1), bad, decide: [zeros, ones], flags }
+    }
+
+    #[test]
+    fn all_decide_alike() {
+        let said = |zeros, ones, flags| of_nine(zeros, ones, flags).outcome();
+        assert_eq!(said(0, 8, 0), "All eight good stations change over, and none flags.");
+        let more = "more than t = 1 are bad.";
+        assert_eq!(
+            said(7, 0, 1),
+            format!("All seven good stations keep the old recipe, and one of them flags: {more}")
+        );
+        assert_eq!(
+            said(0, 7, 3),
+            format!("All seven good stations change over, and three of them flag: {more}")
+        );
+        assert_eq!(
+            said(6, 0, 6),
+            format!("All six good stations keep the old recipe, and every one flags: {more}")
+        );
+    }
+
+    #[test]
+    fn they_differ() {
+        let said = |zeros, ones, flags| of_nine(zeros, ones, flags).outcome();
+        assert_eq!(
+            said(1, 5, 6),
+            "The six good stations differ, and every one flags: more than t = 1 are bad. Five change over, one \
+             keeps the old recipe."
+        );
+        assert_eq!(
+            said(4, 1, 0),
+            "The five good stations differ, and none flags. One changes over, four keep the old recipe."
+        );
+        assert_eq!(
+            said(1, 1, 2),
+            "The two good stations differ, and both flag: more than t = 1 are bad. One changes over, one keeps \
+             the old recipe."
+        );
+    }
+
+    #[test]
+    fn two_one_or_no_good_station() {
+        let said = |zeros, ones, flags| of_nine(zeros, ones, flags).outcome();
+        let more = "more than t = 1 are bad.";
+        assert_eq!(said(2, 0, 0), "Both good stations keep the old recipe, and neither flags.");
+        assert_eq!(said(0, 2, 1), format!("Both good stations change over, and one of them flags: {more}"));
+        assert_eq!(said(0, 2, 2), format!("Both good stations change over, and both flag: {more}"));
+        assert_eq!(said(0, 1, 0), "The one good station changes over and does not flag.");
+        assert_eq!(said(1, 0, 1), format!("The one good station keeps the old recipe and flags: {more}"));
+        assert_eq!(said(0, 0, 0), "All nine stations are bad: there is no outcome.");
+        let alone = Verdict { line: Line::new(1, 0, 0).unwrap(), ..of_nine(0, 0, 0) };
+        assert_eq!(alone.outcome(), "The one station is bad: there is no outcome.");
+    }
+
+    #[test]
+    fn what_the_sender_sent() {
+        let said = |sent| Verdict { sent, ..of_nine(0, 8, 0) }.sender();
+        assert_eq!(said(Some(0)), "The sender, station 9, is good and sent 0: keep the old recipe.");
+        assert_eq!(said(Some(1)), "The sender, station 9, is good and sent 1: change over.");
+        assert_eq!(said(None), "The sender, station 9, is bad: what it told each station is in round 1.");
+    }
+
+    #[test]
+    fn what_is_promised() {
+        let said = |good, sent| Verdict { sent, ..of_nine(0, good, 0) }.promise();
+        let all_as_sent = "every good one decides what the sender sent";
+        assert_eq!(said(9, Some(1)), format!("No station is bad (f = 0): {all_as_sent}, and none flags."));
+        let one = "Station 1 is bad (f = 1), no more than t = 1";
+        assert_eq!(said(8, Some(1)), format!("{one}: {all_as_sent}, and none flags."));
+        assert_eq!(said(8, None), format!("{one}: the good ones decide alike, and none flags."));
+        let three = "Stations 1-3 are bad (f = 3), more than t = 1 but no more than T = 3";
+        assert_eq!(said(6, Some(1)), format!("{three}: {all_as_sent}, but may flag."));
+        assert_eq!(said(6, None), format!("{three}: the good ones differ only if every one of them flags."));
+        let more = "more than T = 3: nothing is promised of such a run.";
+        assert_eq!(said(5, Some(1)), format!("Stations 1-4 are bad (f = 4), {more}"));
+        assert_eq!(said(5, None), said(5, Some(0)));
+        assert_eq!(said(0, None), format!("Every station is bad (f = 9), {more}"));
+        let some = Verdict { bad: vec![1, 4, 6, 7, 8], ..of_nine(4, 0, 0) };
+        assert_eq!(some.promise(), format!("Stations 1, 4, 6-8 are bad (f = 5), {more}"));
+    }
+}
