@@ -48,7 +48,7 @@ fn meaning(entry: Entry) -> &'static str {
         Entry::Framed => "framed: the one who should speak",
         Entry::Faded => "faded: out of turn, without effect",
         Entry::Differ => "a bad one told others different bytes",
-        Entry::Grades => "grades",
+        Entry::Grades => "grades: 2 is sure",
     }
 }
 
@@ -105,6 +105,12 @@ impl Drawing<'_> {
 
     fn sample(&mut self, kind: Kind) {
         let (colour, symbol) = kind.looks();
-        self.svg.square(0, 0, SIDE, colour, symbol);
+        if kind == Kind::Garbled && self.numbers_fit() {
+            let font = Font::plain(SIDE * 2 / 5).middle();
+            self.svg.square(0, 0, SIDE, colour, "");
+            self.svg.text(SIDE / 2, SIDE / 2 + font.drop(), font, "77");
+        } else {
+            self.svg.square(0, 0, SIDE, colour, symbol);
+        }
     }
 }

@@ -41,8 +41,8 @@ fn letters(line: &Line) -> Vec<Meaning> {
     );
     let y = "what most ballots of the second round say: 0 if more zeros than ones, otherwise 1; blanks don't count";
     let grade = format!(
-        "how sure it is of y: 2 with n\u{2212}t = {full} or more of these ballots for y, else 1 with \
-         n\u{2212}T = {quorum} or more, else 0"
+        "how sure it is of y: 2 with n\u{2212}t = {full} or more ballots for y, else 1 with n\u{2212}T = {quorum} or more, \
+         else 0"
     );
     vec![
         entry("x", "what a station stands for when it enters an exchange, 0 or 1. It tells all"),

@@ -43,8 +43,8 @@ fn good_station(svg: &mut Svg, outcome: &[u8]) {
     let (colour, symbol) = GRADES[usize::from(outcome[1])];
     svg.square(0, 2 * CELL, CELL, colour, symbol);
     if outcome[2] == 1 {
-        svg.text(7, 3 * CELL + middle(SMALL), SMALL.bold().middle(), "1");
-        svg.flag(12, 3 * CELL + 6);
+        svg.text(8, 3 * CELL + middle(SMALL), SMALL.bold().middle(), "1");
+        svg.flag(14, 3 * CELL + 6);
     } else {
         svg.text(CELL / 2, 3 * CELL + middle(SMALL), SMALL.middle(), "0");
     }

@@ -76,9 +76,9 @@ impl Svg {
         self.shape(x, y, size, format_args!("fill=\"none\" stroke=\"#000000\" stroke-width=\"2\""));
     }
 
-    /// A flag on its pole, 11 wide and 12 high.
+    /// A flag on its pole, 8 wide and 11 high.
     pub fn flag(&mut self, x: i32, y: i32) {
-        self.put(format_args!("<path d=\"M{x} {y}v12h1v-4l10 -4l-10 -4z\" fill=\"#b34700\"/>"));
+        self.put(format_args!("<path d=\"M{x} {y}v11h1v-4l7 -3.5l-7 -3.5z\" fill=\"#b34700\"/>"));
     }
 
     /// Text whose base line is at y.

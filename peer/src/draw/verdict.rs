@@ -115,7 +115,7 @@ impl Verdict {
             (false, _, true) => "every good one decides what the sender sent, and none flags",
             (false, _, false) => "the good ones decide alike, and none flags",
             (true, false, true) => "every good one decides what the sender sent, but may flag",
-            (true, false, false) => "the good ones differ only if every one of them flags",
+            (true, false, false) => "the good ones may differ, but then every one of them flags",
             (_, true, _) => "nothing is promised of such a run",
         };
         format!("{}{so_many}: {promised}.", self.who_is_bad())
@@ -214,7 +214,10 @@ mod tests {
         assert_eq!(said(8, None), format!("{one}: the good ones decide alike, and none flags."));
         let three = "Stations 1-3 are bad (f = 3), more than t = 1 but no more than T = 3";
         assert_eq!(said(6, Some(1)), format!("{three}: {all_as_sent}, but may flag."));
-        assert_eq!(said(6, None), format!("{three}: the good ones differ only if every one of them flags."));
+        assert_eq!(
+            said(6, None),
+            format!("{three}: the good ones may differ, but then every one of them flags.")
+        );
         let more = "more than T = 3: nothing is promised of such a run.";
         assert_eq!(said(5, Some(1)), format!("Stations 1-4 are bad (f = 4), {more}"));
         assert_eq!(said(5, None), said(5, Some(0)));

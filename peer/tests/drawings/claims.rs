@@ -150,7 +150,7 @@ impl Truth<'_> {
             }
             "the good ones decide alike, and none flags" => !self.differ() && self.flags == 0 && !over_t,
             "every good one decides what the sender sent, but may flag" => as_sent && over_t && !over_upper,
-            "the good ones differ only if every one of them flags" => {
+            "the good ones may differ, but then every one of them flags" => {
                 (!self.differ() || self.flags == self.good()) && over_t && !over_upper
             }
             "nothing is promised of such a run" => over_upper,
