@@ -9,13 +9,15 @@ use Rattle.line.specs.Line.{from-0, table-length}
 use Rattle.line.specs.Marks.{marked, faults}
 use Rattle.line.specs.Header.{header-verdict}
 use Rattle.line.specs.declared.cause.Verdict.the-variants.{Accepted}
+use Rattle.broadcast.specs.Bytes.{Run, log, outcomes}
 use Rattle.broadcast.specs.Guarantees.{Good, TwoThreshold}
 use Rattle.broadcast.specs.Theorems.{value-at, flag-at}
 use Rattle.rehearsal.specs.Calls.{Singly, Values}
 use Rattle.rehearsal.specs.Promise.{run-of}
 
--- A line of bonders: no run table is handed in. `received` is laid out like one: at place n r i j is the byte that station j received from i in round r. What a
--- bad station sent is any byte, and may differ from receiver to receiver. `outcomes` has three bytes a station; its length and a bad one's bytes may be any.
+-- A line of bonders: no run table is handed in. `received` is laid out like one: at place n r i j is the byte that station j received from i in round r, at a
+-- bad j the one that was sent to it. What a bad station sent is any byte, and may differ from receiver to receiver. `outcomes` has three bytes a station; its
+-- length and a bad one's bytes may be any.
 pub record Bonders (n t T sender value marks : ℕ) (v : ℕ → ℕ) (received outcomes : List ℕ) : Type 0 where
   -- there is a byte for each round, sender and receiver
   pub received-size : length received ≡ table-length n t
@@ -24,6 +26,13 @@ pub record Bonders (n t T sender value marks : ℕ) (v : ℕ → ℕ) (received 
   -- each good station runs by its own calls on the rows that it received: every station receives from it what `ballot` tells, and its bytes of the outcomes are
   -- what `result` answers at the end
   pub good : (i : ℕ) → Good n (marked marks) i → Singly (run-of n t T sender value marks received) received outcomes i (v i)
+
+-- there are such lines: every rehearsal's log and outcomes are one
+abbrev pub Rehearsed-bonders : Type 0
+Rehearsed-bonders =
+    (R : Run) → header-verdict (R .n) (R .t) (R .T) (R .sender) (R .value) (R .marks) ≡ Accepted
+    → (v : ℕ → ℕ) → Values R v
+    → Bonders (R .n) (R .t) (R .T) (R .sender) (R .value) (R .marks) v (log R) (outcomes R)
 
 -- all of demand 3 holds of what such stations decide and flag, whatever the bad ones sent, where no cause of 2 to 6 refuses the line's numbers
 abbrev pub Demand-3-of-bonders : Type 0
