@@ -131,24 +131,51 @@ fn cells_show_the_log() {
     }
 }
 
-/// Below the last grid stands each good station's value and grade.
+/// Below a grid stands what each good station sends next; below the last one its value and grade.
 #[test]
-fn strips_show_the_outcomes() {
+fn strips_show_what_stations_hold() {
     let mut lot = Lot(42);
     for n in [1, 3, 8, 16, 17, 32] {
         let by_lot = header_by_lot(&mut lot, n);
         let run = run_by_lot(&mut lot, by_lot);
         let svg = draw(&run);
         let shown = shown(&svg);
-        let last = shown.cells.last().unwrap();
-        for (station, outcome) in run.line.stations().zip(run.outcomes.chunks_exact(3)) {
-            let strips = [last.strip(0, station), last.strip(1, station)];
-            if run.header.marks.bad(station) {
-                assert_eq!(strips, [None, None]);
-            } else {
-                assert_eq!(strips[0], Some(look(outcome[0])));
-                assert_eq!(strips[1].as_ref().unwrap().1, outcome[1].to_string());
+        let last = run.line.rounds();
+        for (round, cells) in (1..).zip(&shown.cells) {
+            for (station, outcome) in run.line.stations().zip(run.outcomes.chunks_exact(3)) {
+                let [held, grade] = [0, 1].map(|strip| cells.strip(strip, station));
+                let sent = |round| run.log[run.line.place(round, station, 1)];
+                match run.line.part(round) {
+                    _ if run.header.marks.bad(station) => assert_eq!([held, grade], [None, None]),
+                    Part::Sender | Part::First | Part::King(_) => {
+                        assert_eq!([held, grade], [Some(look(sent(round + 1))), None]);
+                    }
+                    Part::Second if round == last => {
+                        assert_eq!(held, Some(look(outcome[0])));
+                        assert_eq!(grade.unwrap().1, outcome[1].to_string());
+                    }
+                    Part::Second if run.line.part(round + 1) == Part::King(station) => {
+                        assert_eq!(held, Some(look(sent(round + 1))));
+                    }
+                    Part::Second => assert!(held.is_some() && grade.is_some()),
+                }
             }
+        }
+    }
+}
+
+/// The thresholds and letters stand above the rounds, with the line's numbers.
+#[test]
+fn meanings_stand_above_the_rounds() {
+    for (n, t, upper) in [(1, 0, 0), (3, 0, 1), (9, 1, 3), (16, 5, 5), (17, 0, 8), (32, 10, 10)] {
+        let svg = draw(&run(&write(&header(n, t, upper, 1, 0, 0), &[])).unwrap());
+        let shown = shown(&svg);
+        let rounds = shown.cells.iter().map(|cells| cells.area().1).fold(PAGE, f64::min);
+        let quorums = [format!("n\u{2212}T = {}", n - upper), format!("n\u{2212}t = {}", n - t)];
+        let letters = ["x", "z", "y", "grade", "king", "phase", "flag", "ballot"];
+        for term in quorums.iter().map(String::as_str).chain(letters) {
+            let terms = shown.texts.iter().filter(|text| text.words == term && text.area.0 == 24.0);
+            assert!(terms.filter(|text| text.area.3 < rounds).count() >= 1, "{term}");
         }
     }
 }

@@ -79,13 +79,16 @@ impl Layout {
 
     /// Bands one below the other; one that would be cut by a page's end begins on the next page.
     fn tops(&self, head: i32) -> Vec<i32> {
-        let mut tops = vec![head];
+        let (mut tops, mut y) = (Vec::new(), head);
         for band in 0..=self.band(self.last) {
-            let (top, height) = (tops[tops.len() - 1], self.band_height(band));
-            let top = if page(top) == page(top + height) { top } else { page_top(page(top) + 1) };
-            tops.pop();
-            tops.extend([top, top + height]);
+            let height = self.band_height(band);
+            if page(y) != page(y + height) {
+                y = page_top(page(y) + 1);
+            }
+            tops.push(y);
+            y += height;
         }
+        tops.push(y);
         tops
     }
 
