@@ -287,6 +287,11 @@ fn a_bad_senders_value_is_not_shown() {
 /// Where a page of A4 ends, printed 190 mm wide and 277 mm high.
 const PAGE: f64 = 1000.0 * 277.0 / 190.0;
 
+/// Whether something is clear of the pages' ends.
+fn on_one_page(area: &Area) -> bool {
+    ((area.1 - 3.0).max(0.0) / PAGE).floor() == ((area.3 + 3.0) / PAGE).floor()
+}
+
 /// A drawing is as wide as a page, its cells are at least 2.2 mm wide there, no round is cut by a page's
 /// end, and the outcome stands above all rounds on the first page.
 #[test]
@@ -305,8 +310,13 @@ fn every_line_fits_a_page() {
                 let (left, top, right, bottom) = cells.area();
                 assert!(left > 0.0 && right < 1000.0 - 16.0 && bottom < shown.height);
                 assert!(cells.side * 0.19 >= 2.2, "n {n}");
-                assert_eq!(((top - 44.0) / PAGE).floor(), (bottom / PAGE).floor(), "n {n}, t {t}");
+                assert!(on_one_page(&(left, top, right, bottom)), "n {n}, t {t}");
             }
+            assert!(shown.texts.iter().all(|text| on_one_page(&text.area)), "n {n}, t {t}");
+            let on_page = |page: i32| shown.cells.iter().any(|cells| (cells.area().1 / PAGE) as i32 == page);
+            assert!((0..=(shown.height / PAGE) as i32).all(on_page), "n {n}, t {t}: a page has no round");
+            assert_eq!(shown.rules.len(), usize::from(t) + 4);
+            assert!(shown.rules.iter().all(on_one_page), "n {n}, t {t}");
         }
     }
 }

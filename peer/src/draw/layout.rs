@@ -35,9 +35,12 @@ const LEGEND: i32 = 206;
 /// The most stations of a line whose rounds stand three in a row.
 const MOST_ACROSS: i32 = 16;
 
-/// Where a page begins: 277 mm, as 1000 is 190 mm.
+/// Free at a page's top and bottom, since browsers round a page's height.
+const SLACK: i32 = 4;
+
+/// Where the blocks of a page begin. A page has 277 mm, as 1000 is 190 mm.
 fn page_top(page: i32) -> i32 {
-    (page * 277 * WIDTH + 189) / 190
+    (page * 277 * WIDTH + 189) / 190 + SLACK
 }
 
 /// The page that a line of the drawing is on, counted from 0.
@@ -59,10 +62,10 @@ impl Layout {
     /// The layout below a head that ends here.
     pub fn new(line: &Line, head: i32) -> Layout {
         let n = line.n() as i32;
-        let (columns, by_height) = if n <= MOST_ACROSS {
-            (3, page_top(1) / 4 - BLOCK_HEAD)
-        } else {
-            (2, (page_top(1) - BLOCK_HEAD) / 3)
+        let room = page_top(1) - page_top(0) - 2 * SLACK;
+        let (columns, by_height) = match n <= MOST_ACROSS {
+            true => (3, room / 4 - BLOCK_HEAD),
+            false => (2, (room - BLOCK_HEAD) / 3),
         };
         let by_width = (column_width(columns) - GUTTER) / n;
         let by_height = (by_height - HEAD - GAP - BELOW) / (n + 2);
@@ -82,7 +85,7 @@ impl Layout {
         let (mut tops, mut y) = (Vec::new(), head);
         for band in 0..=self.band(self.last) {
             let height = self.band_height(band);
-            if page(y) != page(y + height) {
+            if page(y) != page(y + height + SLACK) {
                 y = page_top(page(y) + 1);
             }
             tops.push(y);

@@ -170,6 +170,8 @@ pub struct Shown<'a> {
     pub height: f64,
     pub texts: Vec<Text<'a>>,
     pub cells: Vec<Cells<'a>>,
+    /// The lines above the blocks of rounds.
+    pub rules: Vec<Area>,
 }
 
 impl Shown<'_> {
@@ -182,15 +184,20 @@ impl Shown<'_> {
     }
 
     fn take(&mut self, element: &Element<'_>) {
+        let size = || (element.number("width"), element.number("height"));
         if element.tag.starts_with("svg ") {
-            (self.width, self.height) = (element.number("width"), element.number("height"));
+            (self.width, self.height) = size();
+        } else if element.tag.starts_with("rect ") && size().1 == 1.0 {
+            let (x, y) = (element.number("x"), element.number("y"));
+            self.rules.push((x, y, x + size().0, y + 1.0));
         }
     }
 }
 
 /// Reads a drawing back.
 pub fn shown(svg: &str) -> Shown<'_> {
-    let mut shown = Shown { width: 0.0, height: 0.0, texts: Vec::new(), cells: Vec::new() };
+    let mut shown =
+        Shown { width: 0.0, height: 0.0, texts: Vec::new(), cells: Vec::new(), rules: Vec::new() };
     let mut groups = vec![((0.0, 0.0), false)];
     for element in elements(svg) {
         let (place, in_cells) = *groups.last().unwrap();
