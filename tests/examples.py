@@ -2,7 +2,7 @@
 """The examples: run sheets, each with the text that it stands for and its listing.
 
 examples.py          writes the sheets and listings of examples/: document 01's cases A to D, a large run in which ten bad stations divide the good ones,
-                     and the longest listing. The texts are written by hand
+                     and the longest listing. The texts are written by hand, the picture of case C by ./draw
 examples.py --check  holds each sheet to the one made here and to its text, its listing to the model's, and what the program prints to the listing; then
                      some inputs of odd lengths. The last line is 'N passed, M failed'
 """
@@ -141,12 +141,14 @@ def texts():
         text = made_of("text", os.path.join(EXAMPLES, name + ".sheet"))
         done = subprocess.run([os.path.join(TOP, "sheet")], input=text, capture_output=True)
         yield f"{name}: its text in the normal form gives the sheet", done.stdout == sheet
+    picture = made_of("draw", os.path.join(EXAMPLES, "c.sheet"))
+    yield "c: the picture is the one that is drawn", picture == read(os.path.join(EXAMPLES, "c.svg")) and picture
 
 
 def checks():
     """A name and whether it holds, for each."""
-    expected = {name + end for name in sheets() for end in (".sheet", ".listing", ".text")}
-    yield "examples/ has these and no others", {file for file in os.listdir(EXAMPLES) if not file.endswith(".svg")} == expected
+    expected = {name + end for name in sheets() for end in (".sheet", ".listing", ".text")} | {"c.svg"}
+    yield "examples/ has these and no others", set(os.listdir(EXAMPLES)) == expected
     for name, made in sheets().items():
         sheet, text = (read(os.path.join(EXAMPLES, name + end)) for end in (".sheet", ".listing"))
         yield f"{name}: the sheet is the one made here", sheet == made
