@@ -214,51 +214,60 @@ fn the_table_shows_the_outcomes() {
     }
 }
 
+/// Whether a station's bytes for others than itself differ.
+fn told_differently(run: &Run, round: u8, from: u8) -> bool {
+    let others = run.line.stations().filter(|&to| to != from);
+    let bytes: Vec<u8> = others.map(|to| run.log[run.line.place(round, from, to)]).collect();
+    bytes.iter().any(|byte| *byte != bytes[0])
+}
+
+fn should_speak(run: &Run, round: u8, from: u8) -> bool {
+    match run.line.part(round) {
+        Part::Sender => from == run.header.sender,
+        Part::King(king) => from == king,
+        Part::First | Part::Second => true,
+    }
+}
+
+/// Compares a run's marks with its log. Gives how many there are, how many of them are grey, and how many rows of
+/// bad stations have none.
+fn check_marks(run: &Run) -> [usize; 3] {
+    let svg = draw(run);
+    let shown = shown(&svg);
+    let marks: Vec<&Text> = shown.texts.iter().filter(|text| text.words == "\u{2260}").collect();
+    let [mut marked, mut grey, mut unmarked] = [0; 3];
+    for (round, cells) in (1..).zip(&shown.cells) {
+        for from in run.line.stations() {
+            let bad = run.header.marks.bad(from);
+            let beside: Vec<&&Text> = marks.iter().filter(|mark| cells.beside(from, mark)).collect();
+            let expected = usize::from(bad && told_differently(run, round, from));
+            assert_eq!(beside.len(), expected, "round {round} from {from}");
+            let speaks = should_speak(run, round, from);
+            assert!(beside.iter().all(|mark| (mark.colour == "#000000") == speaks));
+            marked += expected;
+            grey += expected * usize::from(!speaks);
+            unmarked += usize::from(bad) - expected;
+        }
+    }
+    assert_eq!(marks.len(), marked + 1, "these and the legend's");
+    [marked, grey, unmarked]
+}
+
 /// A bad station's row is marked exactly if its bytes for others than itself differ; in grey where it
 /// should not speak.
 #[test]
 fn bytes_that_differ_are_marked() {
     let mut lot = Lot(44);
-    let (mut marked, mut unmarked, mut grey) = (0, 0, 0);
+    let mut seen = [0; 3];
     for n in [1, 2, 3, 4, 9, 16, 17, 32] {
         let by_lot = header_by_lot(&mut lot, n);
         let sheet = write(&by_lot, &lot.records(&by_lot));
         for run in [run(&sheet).unwrap(), run_by_lot(&mut lot, by_lot)] {
-            let svg = draw(&run);
-            let mut shown = shown(&svg);
-            for (round, cells) in (1..).zip(&shown.cells) {
-                for from in run.line.stations() {
-                    let row: Vec<u8> = run
-                        .line
-                        .stations()
-                        .filter(|&to| to != from)
-                        .map(|to| run.log[run.line.place(round, from, to)])
-                        .collect();
-                    let differ = run.header.marks.bad(from) && row.iter().any(|byte| *byte != row[0]);
-                    let mark = shown
-                        .texts
-                        .iter()
-                        .position(|text| text.words == "\u{2260}" && cells.beside(from, text));
-                    assert_eq!(mark.is_some(), differ, "round {round} from {from}: {row:?}");
-                    let Some(mark) = mark else {
-                        unmarked += 1;
-                        continue;
-                    };
-                    let speaks = match run.line.part(round) {
-                        Part::Sender => from == run.header.sender,
-                        Part::King(king) => from == king,
-                        Part::First | Part::Second => true,
-                    };
-                    assert_eq!(shown.texts[mark].colour == "#000000", speaks);
-                    shown.texts.remove(mark);
-                    (marked, grey) = (marked + 1, grey + u32::from(!speaks));
-                }
-            }
-            let left = shown.texts.iter().filter(|text| text.words == "\u{2260}").count();
-            assert_eq!(left, 1, "the legend's");
+            let counts = check_marks(&run);
+            seen = [0, 1, 2].map(|i| seen[i] + counts[i]);
         }
     }
-    assert!(marked > 100 && unmarked > 100 && grey > 10);
+    assert!(seen.iter().all(|count| *count > 50), "{seen:?}");
 }
 
 /// The header's value leaves no trace where the sender is bad, and is told where it is good.

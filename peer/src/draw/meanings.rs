@@ -66,7 +66,10 @@ fn words(line: &Line) -> Vec<Meaning> {
         entry("king", king),
         entry(
             "phase",
-            format!("an exchange, then the king's round; {kings} {phases}, then the last exchange"),
+            format!(
+                "an exchange, in which all tell x and then z, and the king's round; {kings} {phases}, then the last \
+                 exchange"
+            ),
         ),
         entry("flag", flag),
         entry("ballot", ballot),
