@@ -72,11 +72,11 @@ below() {
 # outdated FILE SOURCE..: the file isn't there, or something of these is newer
 outdated() { [ ! -e "$1" ] || [ -n "$(find "${@:2}" -newer "$1" -print -quit)" ]; }
 
-# alone: waits until no other command builds, where flock is there to tell
+# alone TOOL: waits until no other command builds with that tool, where flock is there to tell
 alone() {
     mkdir -p "$logs" 2>/dev/null || trouble "$top/target can't be written"
     command -v flock >/dev/null || return 0
-    exec {lock}>>"$logs/lock"
+    exec {lock}>>"$logs/$1.lock"
     flock -n "$lock" && return
     progress "waiting for another command that builds" 0
     flock "$lock"
@@ -129,7 +129,7 @@ build() {
         shift
     done
     outdated "$file" "${sources[@]}" || return 0
-    alone
+    alone "$3"
     # another command may have made it meanwhile
     ! outdated "$file" "${sources[@]}" || produce "$2" "$file" "${@:3}"
     [ -z "${lock-}" ] || exec {lock}>&-
