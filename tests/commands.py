@@ -81,6 +81,10 @@ def refusals(folder):
             yield f"refused: {name}", Ran("agree", file).gives(1, listing, said)
             for command in "text", "draw":
                 yield f"{command}, refused: {name}", Ran(command, file).gives(1, b"", rf"{command}: {re.escape(str(file))}: refused {number}: .+\n")
+    said = r"agree: examples/a.text: refused 1: .*\nagree: by its name it is a text: ./sheet examples/a.text >line.sheet makes its run sheet\n"
+    yield "a text instead of a sheet", Ran("agree", "examples/a.text").gives(1, b"refused 1\n", said)
+    said = r"sheet: examples/a.sheet: line 1: .*\nsheet: by its name it is a run sheet: ./text examples/a.sheet shows it as text\n"
+    yield "a sheet instead of a text", Ran("sheet", "examples/a.sheet").gives(1, b"", said)
     file.write_text("n 4\nt 1\nT 1\nsender 1\nvalue 1\nbad 9\n")
     yield "a wrong text", Ran("sheet", file).gives(1, b"", f"sheet: {re.escape(str(file))}: line 6: station 9 is beyond n 4\n")
 
