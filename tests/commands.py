@@ -85,6 +85,7 @@ def refusals(folder):
     yield "a text instead of a sheet", Ran("agree", "examples/a.text").gives(1, b"refused 1\n", said)
     said = r"sheet: examples/a.sheet: line 1: .*\nsheet: by its name it is a run sheet: ./text examples/a.sheet shows it as text\n"
     yield "a sheet instead of a text", Ran("sheet", "examples/a.sheet").gives(1, b"", said)
+    file = folder / "wrong"
     file.write_text("n 4\nt 1\nT 1\nsender 1\nvalue 1\nbad 9\n")
     yield "a wrong text", Ran("sheet", file).gives(1, b"", f"sheet: {re.escape(str(file))}: line 6: station 9 is beyond n 4\n")
 
@@ -171,13 +172,21 @@ def uses():
 # ---- building, with a made-up rt in a copy of the commands
 
 
+# it goes on after each crate when that is seen to be told, and in the end when it is let go, so that no trial depends on how fast the machine is
 RT = """#!/bin/sh
 echo "$@" >>"$RT_CALLS"
+until_there() { n=0; until [ -e "$RT_CALLS.$1" ] || [ $n -gt 600 ]; do sleep 0.1; n=$((n + 1)); done; }
 case $RT_DOES in
 fails) echo "rt: station NOT PROVED (exit 1, 3 s)"; exit 1 ;;
 waits) sh -c 'echo $$ >>"$RT_CALLS.pids"; exec sleep 600' & echo $$ >>"$RT_CALLS.pids"; wait ;;
+holds) until_there go ;;
 esac
-for crate in line broadcast sheet; do echo "rt: $crate proved (1 s)"; [ "$RT_DOES" = quick ] || sleep 0.8; done
+k=0
+for crate in line broadcast sheet; do
+    k=$((k + 1))
+    echo "rt: $crate proved (1 s)"
+    [ "$RT_DOES" != told ] || until_there $k
+done
 mkdir -p target/bin && printf '%s\\n' '#!/bin/sh' 'cat >/dev/null; echo built' >target/bin/agree && chmod +x target/bin/agree
 """
 
@@ -205,6 +214,30 @@ class Copy:
     def agree(self, **streams):
         return Ran("agree", AGREE, top=self.top, env=self.env, **streams)
 
+    def started(self, stderr):
+        """The command in the background; what it makes goes to a file."""
+        with open(self.top / "made", "wb") as made:
+            return subprocess.Popen(["./agree", AGREE], cwd=self.top, env=self.env, stdin=subprocess.DEVNULL, stdout=made, stderr=stderr)
+
+    def followed(self, near, far):
+        """Status of the command with the far end as its standard error, and what it says there; each step that is told is let go on."""
+        running = self.started(far)
+        os.close(far)
+        said = b""
+        with contextlib.suppress(OSError):
+            while part := os.read(near, 4096):
+                said += part
+                for step in re.findall(rb"(\d+) of \d+ crates", said):
+                    self.let(step.decode())
+        os.close(near)
+        return running.wait(timeout=HANGS), said.decode()
+
+    def let(self, word):
+        pathlib.Path(f"{self.calls}.{word}").touch()
+
+    def made(self):
+        return (self.top / "made").read_bytes()
+
     def called(self):
         return self.calls.read_text().splitlines()
 
@@ -226,12 +259,12 @@ def reached(crate):
 
 
 def building(folder):
-    copy, all_crates = Copy(folder / "first"), len(reached("agree"))
-    first = copy.agree()
-    steps = [f"agree: target/bin/agree isn't built yet: {k} of {all_crates} crates proved" in first.said for k in (1, 2, 3)]
-    yield "the first use builds the program, and says how far it is", first.status == 0 and first.out == b"built\n" and all(steps)
-    copy.env["RT_DOES"] = "quick"
-    yield "and what it has built", re.search(r"agree: built in \d+ s: [0-9a-f]{64}  target/bin/agree\n$", first.said)
+    copy, all_crates = Copy(folder / "first", "told"), len(reached("agree"))
+    status, said = copy.followed(*os.pipe())
+    steps = [f"agree: target/bin/agree isn't built yet: {k} of {all_crates} crates proved (minutes from nothing)\n" for k in (1, 2, 3)]
+    yield "the first use builds the program, and says how far it is", status == 0 and copy.made() == b"built\n" and all(step in said for step in steps)
+    yield "and what it has built", re.search(r"agree: built in \d+ s: [0-9a-f]{64}  target/bin/agree\n$", said)
+    copy.env["RT_DOES"] = ""
     yield "the second doesn't", copy.agree().gives(0, b"built\n") and copy.called() == ["check agree"]
     os.utime(copy.top / "crates" / "runs" / "stdin")
     yield "nor where a crate has changed that it doesn't use", copy.agree().gives(0, b"built\n") and copy.called() == ["check agree"]
@@ -241,9 +274,11 @@ def building(folder):
     (copy.top / "crates" / "sheet" / "specs" / "Chain.antt").unlink()
     yield "also where a file is gone", copy.agree().out == b"built\n" and len(copy.called()) == 3
     yield "nothing temporary is left", copy.left() == []
-    status, shown = on_terminal(["./agree", str(AGREE)], top=Copy(folder / "shown").top, env=copy.env | {"RT_DOES": ""})
-    lines = re.findall(rf"\ragree: target/bin/agree isn't built yet: (\d) of {all_crates} crates proved [^\r\n]*, \d+ s\x1b\[K", shown)
-    yield "on a terminal it is one line, kept up to date", status == 0 and list(dict.fromkeys(lines)) == ["1", "2", "3"] and shown.count("\n") == 2
+    copy = Copy(folder / "shown", "told")
+    status, said = copy.followed(*pty.openpty())
+    lines = re.findall(rf"\ragree: target/bin/agree isn't built yet: (\d) of {all_crates} crates proved [^\r\n]*, \d+ s\x1b\[K", said)
+    kept = status == 0 and [k for k in dict.fromkeys(lines) if k != "0"] == ["1", "2", "3"]
+    yield "on a terminal it is one line, kept up to date", kept and said.count("\n") == 1 and "\r\x1b[Kagree: built in " in said
 
 
 def failing(folder):
@@ -302,12 +337,14 @@ def interrupts(folder):
 
 def at_once(folder):
     """Two first uses at once: one builds, the other waits for it."""
-    copy = Copy(folder / "twice")
-    both = [subprocess.Popen(["./agree", AGREE], cwd=copy.top, env=copy.env, stdout=subprocess.PIPE, stderr=subprocess.PIPE) for _ in range(2)]
-    ended = [one.communicate(timeout=HANGS) for one in both]
-    said = b"".join(said for _, said in ended)
-    outs = [out for out, _ in ended]
-    yield "two first uses at once build once", outs == [b"built\n"] * 2 and copy.called() == ["check agree"] and b"waiting for another command that builds" in said
+    copy = Copy(folder / "twice", "holds")
+    said = [copy.top / "said 1", copy.top / "said 2"]
+    with open(said[0], "wb") as first, open(said[1], "wb") as second:
+        both = [copy.started(first), copy.started(second)]
+    waiting = until(lambda: any("agree: waiting for another command that builds\n" in one.read_text() for one in said))
+    copy.let("go")
+    ended = [one.wait(timeout=HANGS) for one in both]
+    yield "two first uses at once build once", waiting and ended == [0, 0] and copy.called() == ["check agree"]
 
 
 # ---- README.md's block
