@@ -21,7 +21,7 @@ TOP = pathlib.Path(__file__).resolve().parent.parent
 AGREE, LISTING = TOP / "examples" / "a.sheet", (TOP / "examples" / "a.listing").read_bytes()
 COMMANDS = "agree", "sheet", "text", "draw"
 # a command that hasn't ended after so many seconds hangs
-HANGS = 120
+HANGS = 600
 
 
 class Ran:
@@ -347,6 +347,54 @@ def at_once(folder):
     yield "two first uses at once build once", waiting and ended == [0, 0] and copy.called() == ["check agree"]
 
 
+# ---- which program it is
+
+
+def section(name):
+    """The bytes of a section of the station's library for C."""
+    with tempfile.TemporaryDirectory() as folder:
+        archive, file = TOP / "target" / "staticlib" / "libcontroller.a", pathlib.Path(folder) / "section"
+        subprocess.run(["ar", "x", archive], cwd=folder, check=True)
+        subprocess.run(["objcopy", "-O", "binary", f"--only-section={name}", "--set-section-flags", f"{name}=alloc", "controller.o", file], cwd=folder, check=True)
+        return file.read_bytes()
+
+
+def with_other(data, part):
+    """The data with a bit of that part of it changed, wherever it stands."""
+    return data.replace(part, part[:-1] + bytes([part[-1] ^ 1]))
+
+
+def identified(folder):
+    example = folder / "example"
+    sums = Ran("build")
+    done = subprocess.run(["sha256sum", "--check"], input=sums.out, cwd=TOP, capture_output=True)
+    yield "./build prints the sums of what it builds", sums.status == 0 and done.stdout.count(b": OK\n") == 4 == sums.out.count(b"\n")
+    subprocess.run(["gcc", "-O2", "controller/example.c", "target/staticlib/libcontroller.a", "-o", example], cwd=TOP, check=True)
+    subprocess.run(["strip", "-o", folder / "stripped", example], check=True)
+    for built_file in "bin/agree", "staticlib/libcontroller.a", "staticlib/liblent.a", "staticlib/libexports.a":
+        said = f"target/{built_file}: target/{built_file} of this tree, to the byte\n"
+        yield f"./identify of {built_file}", Ran("identify", f"target/{built_file}").gives(0, said.encode())
+    calls = "vembopu_advance, vembopu_ballot, vembopu_open, vembopu_result"
+    for file in example, folder / "stripped":
+        yield f"./identify of a controller, {file.name}", Ran("identify", file).gives(0, f"{file}: has {calls} as this tree builds them\n".encode())
+        data, other = file.read_bytes(), folder / "other"
+        other.write_bytes(with_other(data, section(".text.vembopu_ballot")))
+        rest = calls.replace("vembopu_ballot, ", "")
+        said = f"{other}: has {rest} as this tree builds them, but not vembopu_ballot of this tree\n"
+        yield f"./identify of one with another ballot, {file.name}", Ran("identify", other).gives(1, said.encode())
+        other.write_bytes(with_other(data, section(".rodata.cst16")[:16]))
+        yield f"./identify of one with another constant, {file.name}", Ran("identify", other).gives(1, f"{other}: has {calls} as this tree builds them, but not constants of this tree\n".encode())
+    program = (TOP / "target" / "bin" / "agree").read_bytes()
+    other.write_bytes(with_other(program, program[-64:]))
+    yield "./identify of a changed agree", re.fullmatch(rb".*/other: nothing that this tree builds; its SHA-256 is [0-9a-f]{64}\n", Ran("identify", other).out)
+    yield "./identify of two files, one of them another's", Ran("identify", "target/bin/agree", other).status == 1
+    yield "./identify of no file", Ran("identify", folder / "none").gives(2, b"", "identify: .*/none: No such file or directory\n")
+    for command in "build", "identify":
+        yield f"{command} --help", (asked := Ran(command, "--help")).status == 0 and asked.out.startswith(f"usage: ./{command} ".encode())
+    yield "./build of nothing known", Ran("build", "agreed").gives(2, b"", r"build: there is nothing called agreed\nusage: (?s:.*)")
+    yield "./identify without a file", Ran("identify").gives(2, b"", r"usage: (?s:.*)")
+
+
 # ---- README.md's block
 
 
@@ -363,7 +411,7 @@ def pasted(folder):
 
 
 def checks():
-    trials = [inputs, refusals, troubles, building, failing, interrupts, at_once, pasted]
+    trials = [inputs, refusals, troubles, building, failing, interrupts, at_once, identified, pasted]
     for trial in trials:
         with tempfile.TemporaryDirectory() as folder:
             yield from trial(pathlib.Path(folder).resolve())
