@@ -135,6 +135,8 @@ static void ballots(void)
     for (int z = 0; z < 3; z++)
         check(vembopu_ballot_byte(vembopu_ballot(4, 1, 1, 1, 2, bytes4(3, 1, z, 0))) == z, "ballot z %d", z);
     check(vembopu_ballot_byte(vembopu_ballot(4, 1, 1, 1, 2, bytes4(1, 1, 2, 0))) == 255, "no ballot");
+    for (int x = 0; x < 2; x++)
+        check(undecided(vembopu_ballot(4, 1, 1, 1, 1, bytes4(1, x, 2, 0))), "the answer of a ballot %d as a result", x);
     check(VEMBOPU_BLANK == 2 && VEMBOPU_SILENCE == 255 && VEMBOPU_NOTHING == 255, "the names of bytes");
 }
 

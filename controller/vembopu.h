@@ -40,7 +40,8 @@
  * grade and flag: README.md, "On the wire".
  *
  * Any content may be handed in: what is not allowed is refused, by number, and
- * nothing else happens. A call reads nothing but its arguments, for a row the
+ * nothing else happens. What C makes of a wider number before the call is not
+ * seen: an int of 263 comes in as 7. A call reads nothing but its arguments, for a row the
  * row_len bytes at row, for a lent station its nine bytes; it calls nothing,
  * keeps nothing, and the same arguments always give the same answer.
  * vembopu_advance_lent alone writes, and only those nine bytes; the other four
@@ -117,7 +118,8 @@ enum {
  * Bytes of stack that a call needs at most, its arguments, its return address
  * and its red zone included: measured on the libraries for x86-64 (stack.c),
  * not proved, and rounded up. What an interrupt lays on the same stack comes on
- * top.
+ * top. The calls keep to the System V ABI and use SSE2 registers: a task or an
+ * interrupt that calls them has these saved.
  */
 enum {
     VEMBOPU_STACK_OPEN = 32,
@@ -147,8 +149,8 @@ uint64_t vembopu_open(uint8_t n, uint8_t t, uint8_t upper, uint8_t sender,
                       uint8_t own, uint8_t value);
 
 /*
- * The ballot for the current round, to be sent to all stations, itself
- * included: 0, 1, or 2 (blank); 255 if the station doesn't speak.
+ * The ballot for the current round, to be sent to all others and put into the
+ * own row: 0, 1, or 2 (blank); 255 if the station doesn't speak.
  *
  * state    from the last accepted open or advance of this station. Any 32 bits
  *          may be handed in. Lowest byte first they are round, value, z and
@@ -283,10 +285,14 @@ static inline uint8_t vembopu_ballot_byte(uint64_t answer)
     return (uint8_t)answer;
 }
 
-/* Of result: 1 if accepted and done, 0 if running or refused. */
+/* Of result: 1 if accepted and done, 0 if running or refused. Grade and flag of
+   a done result agree, which those of a ballot's answer don't. */
 static inline int vembopu_done(uint64_t answer)
 {
-    return vembopu_refusal(answer) == 0 && (answer & 0xffu) == 1;
+    unsigned grade = (unsigned)((answer >> 16) & 0xffu);
+    unsigned flag = (unsigned)((answer >> 24) & 0xffu);
+    return vembopu_refusal(answer) == 0 && (answer & 0xffu) == 1 &&
+           flag == (grade < 2);
 }
 
 /* Of result: 1 if accepted and running, 0 if done or refused. */

@@ -376,14 +376,17 @@ def identified(folder):
         yield f"./identify of {built_file}", Ran("identify", f"target/{built_file}").gives(0, said.encode())
     calls = "vembopu_advance, vembopu_ballot, vembopu_open, vembopu_result"
     for file in example, folder / "stripped":
-        yield f"./identify of a controller, {file.name}", Ran("identify", file).gives(0, f"{file}: has {calls} as this tree builds them\n".encode())
+        yield f"./identify of a controller, {file.name}", Ran("identify", file).gives(0, f"{file}: has {calls} as this tree builds them, and no call of liblent.a or libexports.a\n".encode())
         data, other = file.read_bytes(), folder / "other"
         other.write_bytes(with_other(data, section(".text.vembopu_ballot")))
         rest = calls.replace("vembopu_ballot, ", "")
-        said = f"{other}: has {rest} as this tree builds them, but not vembopu_ballot of this tree\n"
+        said = f"{other}: has {rest} as this tree builds them, but not vembopu_ballot\n"
         yield f"./identify of one with another ballot, {file.name}", Ran("identify", other).gives(1, said.encode())
         other.write_bytes(with_other(data, section(".rodata.cst16")[:16]))
-        yield f"./identify of one with another constant, {file.name}", Ran("identify", other).gives(1, f"{other}: has {calls} as this tree builds them, but not constants of this tree\n".encode())
+        yield f"./identify of one with another constant, {file.name}", Ran("identify", other).gives(1, f"{other}: has {calls} as this tree builds them, but not constants\n".encode())
+    subprocess.run(["gcc", "-O2", "-c", "controller/example.c", "-o", folder / "named"], cwd=TOP, check=True)
+    named = Ran("identify", folder / "named")
+    yield "./identify of a file that only names the calls", named.status == 1 and named.out.endswith(b", and has no code of them as this tree builds it\n")
     program = (TOP / "target" / "bin" / "agree").read_bytes()
     other.write_bytes(with_other(program, program[-64:]))
     yield "./identify of a changed agree", re.fullmatch(rb".*/other: nothing that this tree builds; its SHA-256 is [0-9a-f]{64}\n", Ran("identify", other).out)
