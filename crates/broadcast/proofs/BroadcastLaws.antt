@@ -9,13 +9,14 @@ use native.Mathlib.Nat.{lt-of-not-le, le-of-eq, le-antisymm, eq-zero-or-pos}
 use borrow.Author.Tests.{eqb-true, eqb-false}
 use lib.Dec.{eqb}
 use Rattle.line.specs.Line.{Fits}
+use Rattle.line.specs.Marks.{faults}
 use Rattle.line.specs.Ballot.{read-sender}
 use Rattle.line.proofs.CountLaws.{mono, widen, witness}
 use Rattle.line.proofs.BallotLaws.{read-sender-bit, read-sender-keeps}
 use Rattle.broadcast.specs.Exchange.{Setting, sends, flag-of}
 use Rattle.broadcast.specs.Broadcast.{obey, phases, first-round, x-after, y-after, grade-after, value-of, final-grade, final-flag}
 use Rattle.broadcast.specs.Guarantees.{Good, GradedConsensus, TwoThreshold}
-use Rattle.broadcast.specs.Theorems.{Unflagged-agree, Enough-unflagged}
+use Rattle.broadcast.specs.Theorems.{Unflagged-agree, Enough-unflagged, Enough-flags, Enough-show}
 use Rattle.broadcast.proofs.TallyLaws.{flag-means, flag-bit, obey-means, obey-bit, obey-king}
 use Rattle.broadcast.proofs.ExchangeLaws.{faults-of, All, good-sends, y-is-bit, graded-consensus}
 
@@ -144,3 +145,23 @@ enough-unflagged n t T bad s v D F P f enough i j gi gj = go (eqb (D i) (D j)) r
     go true e = eqb-true (D i) (D j) e
     go false e =
         absurd (omega (arith, f, enough, mono n (λ k. not (eqb (F k) 1)) bad (λ k h. raised (eqb-false (D i) (D j) e) k h (bad k) refl)))
+
+-- with f at most t no good station flags, so every station that shows a flag would be bad
+pub enough-flags : Enough-flags
+enough-flags n t T bad s v D F P enough = lt-of-not-le (λ f. omega (arith, f, enough, mono n (λ k. eqb (F k) 1) bad (λ k h. liar f k h (bad k) refl)))
+  where
+    liar : faults n bad ≤ t → (k : ℕ) → k < n → (b : Bool) → bad k ≡ b → eqb (F k) 1 ≡ true → b ≡ true
+    liar f k h true e flagged = refl
+    liar f k h false e flagged = absurd (true≢false (sym (rw (P .no-flag f k (h, e)) at flagged)))
+
+-- a good station that decides otherwise would make everyone bad that shows v
+pub enough-show : Enough-show
+enough-show n T bad D f agree v enough i gi = go (eqb (D i) v) refl
+  where
+    liar : D i ≢ v → (k : ℕ) → k < n → (b : Bool) → bad k ≡ b → eqb (D k) v ≡ true → b ≡ true
+    liar differ k h true e shown = refl
+    liar differ k h false e shown = absurd (differ (agree i k gi (h, e) ∙ eqb-true (D k) v shown))
+
+    go : (same : Bool) → eqb (D i) v ≡ same → D i ≡ v
+    go true e = eqb-true (D i) v e
+    go false e = absurd (omega (arith, f, enough, mono n (λ k. eqb (D k) v) bad (λ k h. liar (eqb-false (D i) v e) k h (bad k) refl)))

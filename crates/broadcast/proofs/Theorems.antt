@@ -1,5 +1,5 @@
 -- The theorems: each statement of specs/Theorems.antt, under its name, and the law that proves it. Assumes nothing.
-use Rattle.broadcast.specs.Theorems.{Blanks-count-for-neither, Ballots-make-n, Definition-6, Definition-6-alone, Exchange-effect, Exchange-bytes, Log-bytes, Part-by-rounds, Sent-by-rounds, Outcome-bytes, Table-effect, Demand-3, Unflagged-agree, Enough-unflagged, Station-follows-run, Stations-make-run, Done-after-rows, Value-at-sender}
+use Rattle.broadcast.specs.Theorems.{Blanks-count-for-neither, Ballots-make-n, Definition-6, Definition-6-alone, Exchange-effect, Exchange-bytes, Log-bytes, Part-by-rounds, Sent-by-rounds, Outcome-bytes, Table-effect, Demand-3, Unflagged-agree, Enough-unflagged, Enough-flags, Enough-show, Station-follows-run, Stations-make-run, Done-after-rows, Value-at-sender}
 use Rattle.broadcast.proofs.TallyLaws.{blanks-for-neither, seconds-make-n}
 use Rattle.broadcast.proofs.ExchangeLaws.{graded-consensus}
 use Rattle.broadcast.proofs.RoundLaws.{done-after, value-without-effect}
@@ -51,6 +51,12 @@ unflagged-agree = whole.unflagged-agree
 
 pub enough-unflagged : Enough-unflagged
 enough-unflagged = whole.enough-unflagged
+
+pub enough-flags : Enough-flags
+enough-flags = whole.enough-flags
+
+pub enough-show : Enough-show
+enough-show = whole.enough-show
 
 pub station-follows-run : Station-follows-run
 station-follows-run = follows

@@ -170,6 +170,20 @@ Enough-unflagged =
     → faults n bad ≤ T → T < count n (λ k. not (eqb (flags k) 1))
     → (i j : ℕ) → Good n bad i → Good n bad j → decides i ≡ decides j
 
+-- more than t stations that show a flag, whichever of these are bad: f exceeds t
+abbrev pub Enough-flags : Type 0
+Enough-flags =
+    (n t T : ℕ) (bad : ℕ → Bool) (sender-from-0 value : ℕ) (decides flags : ℕ → ℕ)
+    → TwoThreshold n t T bad sender-from-0 value decides flags
+    → t < count n (λ k. eqb (flags k) 1) → t < faults n bad
+
+-- f at most T, all good stations decide one value, and more than T stations show v, whichever of these are bad: that value is v
+abbrev pub Enough-show : Type 0
+Enough-show =
+    (n T : ℕ) (bad : ℕ → Bool) (decides : ℕ → ℕ)
+    → faults n bad ≤ T → ((i j : ℕ) → Good n bad i → Good n bad j → decides i ≡ decides j)
+    → (v : ℕ) → T < count n (λ k. eqb (decides k) v) → (i : ℕ) → Good n bad i → decides i ≡ v
+
 -- ---- demand 2; the sentences quoted are the demand's own (docs/PROMISES.md, "What is asked")
 
 -- "Good stations run singly on the rows they received send those ballots and reach those outcomes": station j, opened with v, on the rows
