@@ -26,7 +26,7 @@ pub record GradedConsensus (n t T : ℕ) (bad : ℕ → Bool) (x y g : ℕ → �
   pub detection : faults n bad ≤ T → (i : ℕ) → Good n bad i → g i ≡ 2 → (j : ℕ) → Good n bad j → y j ≡ y i
 
 -- Demand 3, of a whole run (source 001, Definition 2): station i decides `decides i`, and raises its flag exactly if `flags i` is 1. 001's g = 1, a station
--- that is sure, is our flag 0. The sentences quoted without a source are the demand's own (docs/PROMISES.md, "What is asked").
+-- that is sure, is our flag 0. The sentences quoted without a source are the demand's own (docs/AUDIT.md, "What is asked").
 pub record TwoThreshold (n t T : ℕ) (bad : ℕ → Bool) (sender-from-0 value : ℕ) (decides flags : ℕ → ℕ) : Type 0 where
   -- 001: "decides on an output value y_i ∈ D and a grade value g_i ∈ {0, 1}", where D is 0 and 1 here
   pub range : (i : ℕ) → Good n bad i → (decides i ≤ 1) × (flags i ≤ 1)

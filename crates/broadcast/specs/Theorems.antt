@@ -184,7 +184,7 @@ Enough-show =
     → faults n bad ≤ T → ((i j : ℕ) → Good n bad i → Good n bad j → decides i ≡ decides j)
     → (v : ℕ) → T < count n (λ k. eqb (decides k) v) → (i : ℕ) → Good n bad i → decides i ≡ v
 
--- ---- demand 2; the sentences quoted are the demand's own (docs/PROMISES.md, "What is asked")
+-- ---- demand 2; the sentences quoted are the demand's own (docs/AUDIT.md, "What is asked")
 
 -- "Good stations run singly on the rows they received send those ballots and reach those outcomes": station j, opened with v, on the rows
 -- that it received in the run

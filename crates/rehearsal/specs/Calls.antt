@@ -1,5 +1,5 @@
 -- Demand 2, of the calls: what `open`, `ballot`, `advance` and `result` of crate station answer on the rows of a log. The sentences quoted are the
--- demand's own (docs/PROMISES.md, "What is asked"). Station i is counted from 0: its number is i + 1.
+-- demand's own (docs/AUDIT.md, "What is asked"). Station i is counted from 0: its number is i + 1.
 use Prim.Native.Nat.{ℕ, _+_, _*_, _≤_, _<_}
 use mathlib.Core.Path.{_≡_}
 use mathlib.Core.Bool.{true}

@@ -116,7 +116,7 @@ impl Verdict {
             (false, _, false) => "the good ones decide alike, and none flags",
             (true, false, true) => "every good one decides what the sender sent, but may flag",
             (true, false, false) => "the good ones may differ, but then every one of them flags",
-            (_, true, _) => "nothing is promised of such a run",
+            (_, true, _) => "no agreement is promised of such a run",
         };
         format!("{}{so_many}: {promised}.", self.who_is_bad())
     }
@@ -218,7 +218,7 @@ mod tests {
             said(6, None),
             format!("{three}: the good ones may differ, but then every one of them flags.")
         );
-        let more = "more than T = 3: nothing is promised of such a run.";
+        let more = "more than T = 3: no agreement is promised of such a run.";
         assert_eq!(said(5, Some(1)), format!("Stations 1-4 are bad (f = 4), {more}"));
         assert_eq!(said(5, None), said(5, Some(0)));
         assert_eq!(said(0, None), format!("Every station is bad (f = 9), {more}"));

@@ -153,7 +153,7 @@ impl Truth<'_> {
             "the good ones may differ, but then every one of them flags" => {
                 (!self.differ() || self.flags == self.good()) && over_t && !over_upper
             }
-            "nothing is promised of such a run" => over_upper,
+            "no agreement is promised of such a run" => over_upper,
             other => panic!("`{other}`"),
         };
         assert!(kept, "`{said}`");
