@@ -74,12 +74,12 @@ outdated() { [ ! -e "$1" ] || [ -n "$(find "${@:2}" -newer "$1" -print -quit)" ]
 
 # alone TOOL: waits until no other command builds with that tool, where flock is there to tell
 alone() {
+    local began=$SECONDS
     mkdir -p "$logs" 2>/dev/null || trouble "$top/target can't be written"
     command -v flock >/dev/null || return 0
     exec {lock}>>"$logs/$1.lock"
-    flock -n "$lock" && return
-    progress "waiting for another command that builds" 0
-    flock "$lock"
+    until flock -w 0.5 "$lock"; do progress "waiting for another command that builds" $((SECONDS - began)); done
+    wipe
 }
 
 # produce STEPS FILE TOOL WORD..: has the tool make the file, and says how many of so many crates it has proved; what the tool prints is kept in a log
@@ -87,7 +87,8 @@ produce() {
     local steps=$1 file=$2 path=${2#"$top"/} log=$logs/${2##*/}.log began=$SECONDS why status
     shift 2
     command -v "$1" >/dev/null || trouble "$path can't be built: $1 is not on the PATH (README.md, \"What it needs\")"
-    [ -e "$file" ] && why="$path is older than its sources" || why="$path isn't built yet"
+    [ -e "$file" ] && why="is older than its sources" || why="isn't built yet"
+    say "$path $why: building, $([ "$steps" -eq 0 ] && echo seconds || echo "some minutes from nothing")"
     : >"$log" || trouble "$log can't be written"
     # what changes while the file is made is newer than it
     : >"$work/began"
@@ -97,7 +98,7 @@ produce() {
     group=$!
     set +m
     while kill -0 "$group" 2>/dev/null; do
-        progress "$why: $(steps_done "$steps" "$log")" $((SECONDS - began))
+        progress "$(steps_done "$steps" "$log")" $((SECONDS - began))
         sleep 0.5
     done
     wait "$group" 2>/dev/null
@@ -105,15 +106,15 @@ produce() {
     group=''
     [ "$status" -eq 0 ] && [ -e "$file" ] || trouble "$path can't be built; $log says why"
     touch -r "$work/began" "$file"
-    say "built in $((SECONDS - began)) s: $(sum_of "$file")"
+    say "built in $((SECONDS - began)) s$([ "$1" != rt ] || echo ": $(sum_of "$file")")"
 }
 
 # steps_done STEPS LOG: how far it is
 steps_done() {
     if [ "$1" -gt 0 ]; then
-        echo "$(grep -cE '^rt: [a-z_]+ proved' "$2") of $1 crates proved (minutes from nothing)"
+        echo "$(grep -cE '^rt: [a-z_]+ proved' "$2") of $1 crates proved"
     else
-        echo "building (seconds)"
+        echo building
     fi
 }
 

@@ -66,7 +66,7 @@ def inputs(folder):
     yield "a name with signs in it", Ran("linked", "--", odd.name, top=folder).gives(0, LISTING)
     yield "a sheet in a pipe that comes in two parts", in_shell(f"(head -c 5; sleep 0.3; cat) <'{AGREE}' | ./agree").stdout == LISTING
     odd.write_bytes(AGREE.read_bytes()[:11])
-    yield "and what is said of it", Ran("linked", odd, top=folder).gives(1, b"refused 1\n", f"agree: {re.escape(str(odd))}: refused 1: .*\n")
+    yield "and what is said of it", Ran("linked", odd, top=folder).gives(1, b"refused 1\n", f"agree: {re.escape(str(odd))}: refused 1: .*\nagree: it has 11 bytes\n")
 
 
 def refusals(folder):
@@ -77,11 +77,10 @@ def refusals(folder):
         if listing.startswith(b"refused "):
             number = listing.split()[1].decode()
             file.write_bytes(sheet)
-            said = re.escape(f"agree: {file}: refused {number}: {told[number]}\n")
-            yield f"refused: {name}", Ran("agree", file).gives(1, listing, said)
-            for command in "text", "draw":
-                yield f"{command}, refused: {name}", Ran(command, file).gives(1, b"", rf"{command}: {re.escape(str(file))}: refused {number}: .+\n")
-    said = r"agree: examples/a.text: refused 1: .*\nagree: by its name it is a text: ./sheet examples/a.text >line.sheet makes its run sheet\n"
+            for command, out in ("agree", listing), ("text", b""), ("draw", b""):
+                said = re.escape(f"{command}: {file}: refused {number}: {told[number]}\n{command}: it has {len(sheet)} bytes\n")
+                yield f"{command}, refused: {name}", Ran(command, file).gives(1, out, said)
+    said = r"agree: examples/a.text: refused 1: .*\nagree: it looks like a text: ./sheet examples/a.text >line.sheet makes its run sheet\n"
     yield "a text instead of a sheet", Ran("agree", "examples/a.text").gives(1, b"refused 1\n", said)
     said = r"sheet: examples/a.sheet: line 1: .*\nsheet: by its name it is a run sheet: ./text examples/a.sheet shows it as text\n"
     yield "a sheet instead of a text", Ran("sheet", "examples/a.sheet").gives(1, b"", said)
@@ -160,7 +159,10 @@ def uses():
         yield f"{command}: two files", Ran(command, AGREE, AGREE).gives(2, b"", f"{command}: one file at most\n{usage}")
         yield f"{command}: an empty name", Ran(command, "").gives(2, b"", f"{command}: the file's name is empty\n{usage}")
         status, shown = on_terminal([f"./{command}"], streams=("stdin", "stderr"))
-        yield f"{command}: a terminal as input", status == 2 and re.fullmatch(usage, shown.replace("\r\n", "\n"))
+        said = f"{command}: no file is named, and standard input is a terminal\n{usage}"
+        yield f"{command}: a terminal as input", status == 2 and re.fullmatch(said, shown.replace("\r\n", "\n"))
+        with open("/dev/full", "wb") as full:
+            yield f"{command} --help, a full output", Ran(command, "--help", stdout=full).gives(2, None, f"{command}: standard output can't be written\n")
     for command, file, kept in ("sheet", "examples/a.text", "line.sheet"), ("draw", "examples/a.sheet", "line.svg"):
         status, shown = on_terminal([f"./{command}", file])
         said = f"{command}: a terminal can't show it: write it to a file, as in ./{command} {file} >{kept}\r\nusage: "
@@ -261,7 +263,8 @@ def reached(crate):
 def building(folder):
     copy, all_crates = Copy(folder / "first", "told"), len(reached("agree"))
     status, said = copy.followed(*os.pipe())
-    steps = [f"agree: target/bin/agree isn't built yet: {k} of {all_crates} crates proved (minutes from nothing)\n" for k in (1, 2, 3)]
+    steps = ["agree: target/bin/agree isn't built yet: building, some minutes from nothing\n"]
+    steps += [f"agree: {k} of {all_crates} crates proved\n" for k in (1, 2, 3)]
     yield "the first use builds the program, and says how far it is", status == 0 and copy.made() == b"built\n" and all(step in said for step in steps)
     yield "and what it has built", re.search(r"agree: built in \d+ s: [0-9a-f]{64}  target/bin/agree\n$", said)
     copy.env["RT_DOES"] = ""
@@ -276,16 +279,16 @@ def building(folder):
     yield "nothing temporary is left", copy.left() == []
     copy = Copy(folder / "shown", "told")
     status, said = copy.followed(*pty.openpty())
-    lines = re.findall(rf"\ragree: target/bin/agree isn't built yet: (\d) of {all_crates} crates proved [^\r\n]*, \d+ s\x1b\[K", said)
+    lines = re.findall(rf"\ragree: (\d) of {all_crates} crates proved, \d+ s\x1b\[K", said)
     kept = status == 0 and [k for k in dict.fromkeys(lines) if k != "0"] == ["1", "2", "3"]
-    yield "on a terminal it is one line, kept up to date", kept and said.count("\n") == 1 and "\r\x1b[Kagree: built in " in said
+    yield "on a terminal it is one line, kept up to date", kept and said.count("\n") == 2 and "\r\x1b[Kagree: built in " in said
 
 
 def failing(folder):
     copy = Copy(folder / "fails", "fails")
     log = copy.top / "target" / "commands" / "agree.log"
     said = re.escape(f"agree: target/bin/agree can't be built; {log} says why\n")
-    yield "a build that fails", copy.agree().gives(2, b"", f"(agree: target.*\n)?{said}") and "station NOT PROVED" in log.read_text()
+    yield "a build that fails", copy.agree().gives(2, b"", f"agree: target.*: building, .*\n(agree: 0 of .*\n)?{said}") and "station NOT PROVED" in log.read_text()
     (folder / "fails" / "tools" / "rt").unlink()
     copy.env["PATH"] = without_rt(folder)
     yield "no rt", copy.agree().gives(2, b"", 'agree: target/bin/agree can\'t be built: rt is not on the PATH \\(README.md, "What it needs"\\)\n')
@@ -389,7 +392,7 @@ def identified(folder):
     yield "./identify of a file that only names the calls", named.status == 1 and named.out.endswith(b", and has no code of them as this tree builds it\n")
     program = (TOP / "target" / "bin" / "agree").read_bytes()
     other.write_bytes(with_other(program, program[-64:]))
-    yield "./identify of a changed agree", re.fullmatch(rb".*/other: nothing that this tree builds; its SHA-256 is [0-9a-f]{64}\n", Ran("identify", other).out)
+    yield "./identify of a changed agree", re.fullmatch(rb".*/other: neither agree nor a library of this tree, and none of their calls; its SHA-256 is [0-9a-f]{64}\n", Ran("identify", other).out)
     yield "./identify of two files, one of them another's", Ran("identify", "target/bin/agree", other).status == 1
     yield "./identify of no file", Ran("identify", folder / "none").gives(2, b"", "identify: .*/none: No such file or directory\n")
     for command in "build", "identify":

@@ -54,22 +54,25 @@ impl Cause {
     pub fn words(self) -> &'static str {
         match self {
             Cause::SheetForm => {
-                "the sheet's length is not 12 + 8k with k at most 4096, or byte 5 is not zero"
+                "the sheet's length is not 12 + 8k with k from 0 to 4,096, or byte 5, counted from 0, is not zero"
             }
             Cause::StationCount => "n is outside 1 to 32",
             Cause::Thresholds => "t is above T, or t + 2T is not below n",
-            Cause::StationNumber => "the sender or own station is outside 1 to n",
-            Cause::Value => "the value or an unmarked station's input is not 0 or 1",
+            Cause::StationNumber => "the sender, or a station's own number, is outside 1 to n",
+            Cause::Value => "the value, or an unmarked station's input to an exchange, is not 0 or 1",
             Cause::MarkBeyond => "a mark stands beyond station n",
-            Cause::StationState => "the station's state is out of range, or the station is done",
-            Cause::Length => "a lent buffer is not of its exact length",
+            Cause::StationState => {
+                "a station's round is outside 1 to R + 1, its value above 1, its z or grade above 2; or a ballot \
+                 or row is wanted of a done station"
+            }
+            Cause::Length => "a table, log, outcome, input or row is not of its exact length",
             Cause::IndexBeyond => "the chain reaches an index above k",
             Cause::ReachedAgain => "the chain reaches a record again",
             Cause::Record => {
-                "a record's round or station is out of range, or its last two bytes are not zero"
+                "a record's round is outside 1 to R, a station outside 1 to n, or its last two bytes are not zero"
             }
-            Cause::FromUnmarked => "a record's from is not marked",
-            Cause::Repeated => "an earlier record has the same round, from and to",
+            Cause::FromUnmarked => "a record is from a station that is not marked",
+            Cause::Repeated => "an earlier record of the chain has the same round, from and to",
         }
     }
 }

@@ -15,7 +15,7 @@ usage: peer listing [SHEET]    the listing of a run sheet
        peer text [SHEET]       a run sheet as text, in the normal form
        peer draw [SHEET]       a drawing of the run, as SVG
        peer runs [RUNS]        what the program of crate runs must print of stored runs
-A file that isn't named is read from standard input. What is made goes to standard output.
+A file that isn't named, or is named -, is read from standard input. What is made goes to standard output.
 Exit status: 0 if it is made, 1 if the sheet is refused or the text is wrong, 2 for any other trouble.
 
 Built with the feature verified:
@@ -44,6 +44,7 @@ fn make(command: &str, rest: &[String]) -> Option<ExitCode> {
     let file = match rest {
         [] if io::stdin().is_terminal() => return None,
         [] => None,
+        [file] if file == "-" => None,
         [file] => Some(file.as_str()),
         _ => return None,
     };
@@ -165,7 +166,7 @@ fn make_listing(file: Option<&str>) -> Result<Made, String> {
 }
 
 fn make_sheet(file: Option<&str>) -> Result<Made, String> {
-    let bytes = read_at_most(file, u64::MAX)?;
+    let bytes = read_at_most(file, text::LONGEST as u64 + 1)?;
     Ok(match text::to_sheet(&String::from_utf8_lossy(&bytes)) {
         Ok(sheet) => Made::whole(sheet),
         Err(error) => Made::refused(format!("{}: {error}", name(file))),

@@ -22,6 +22,9 @@ use std::fmt;
 use crate::line::{Cause, Header, Line, Marks, BLANK, SILENCE};
 use crate::sheet::{self, Record, RECORDS};
 
+/// The most bytes of a text: many times what 4,096 records can need.
+pub const LONGEST: usize = 1 << 24;
+
 /// What is wrong with a text, and in which line; line 0 stands for the whole text.
 #[derive(Clone, PartialEq, Eq, Debug)]
 pub struct Error {
@@ -52,7 +55,7 @@ struct Entry<'a> {
 
 impl Entry<'_> {
     fn error<T>(&self, what: String) -> Result<T, Error> {
-        Err(Error { line: self.line, what })
+        Err(Error { line: self.line, what: shown(&what) })
     }
 
     /// The one number of a header's line.
@@ -69,6 +72,9 @@ impl Entry<'_> {
 
     /// Numbers and ranges, or `all`.
     fn list(&self, part: &str, words: &[&str], all: Vec<u8>) -> Result<Vec<u8>, Error> {
+        if words == ["all"] && all.is_empty() {
+            return self.error(format!("no station is bad, so `{part} all` names none"));
+        }
         if words == ["all"] {
             return Ok(all);
         }
@@ -134,6 +140,21 @@ impl Entry<'_> {
     }
 }
 
+/// A message for a terminal, whatever words of a text it quotes: of one line's length, without signs that steer the terminal.
+fn shown(what: &str) -> String {
+    let mut shown = String::new();
+    for letter in what.chars() {
+        if shown.len() > 200 {
+            return shown + " ..";
+        }
+        match letter.is_control() {
+            true => shown.extend(letter.escape_default()),
+            false => shown.push(letter),
+        }
+    }
+    shown
+}
+
 /// A decimal number without a sign.
 fn byte(word: &str) -> Option<u8> {
     let digits = word.bytes().all(|byte| byte.is_ascii_digit());
@@ -162,7 +183,13 @@ fn sorted(text: &str) -> Result<([Entry<'_>; 6], Vec<Entry<'_>>), Error> {
                 None => fields[at] = Some(entry),
             },
             None if entry.first == PARTS[0] => records.push(entry),
-            None => return entry.error(format!("a line cannot begin with `{}`", entry.first)),
+            None => {
+                let words = FIELDS.join(", ");
+                return entry.error(format!(
+                    "a line begins with {words} or {}, not with `{}`",
+                    PARTS[0], entry.first
+                ));
+            }
         }
     }
     if let Some(at) = fields.iter().position(Option::is_none) {
@@ -232,6 +259,9 @@ fn records_of(entry: &Entry, line: &Line, marks: Marks) -> Result<Vec<Record>, E
 
 /// The sheet that a text stands for.
 pub fn to_sheet(text: &str) -> Result<Vec<u8>, Error> {
+    if text.len() > LONGEST {
+        return Err(Error { line: 0, what: format!("a text has at most {LONGEST} bytes") });
+    }
     let (fields, entries) = sorted(text)?;
     let header = header(&fields)?;
     let line = header.judge().expect("the header is judged");

@@ -101,7 +101,15 @@ fn wrong_headers() {
     assert_eq!(wrong(1, "n 4 5"), "line 1: one number is wanted after `n`");
     assert_eq!(wrong(1, "n"), "line 1: one number is wanted after `n`");
     assert_eq!(wrong(1, "# n 4"), "no line begins with `n`");
-    assert_eq!(wrong(1, "N 4"), "line 1: a line cannot begin with `N`");
+    assert_eq!(
+        wrong(1, "N 4"),
+        "line 1: a line begins with n, t, T, sender, value, bad or round, not with `N`"
+    );
+    assert_eq!(
+        wrong(1, "\u{1b}[2Jn 4"),
+        "line 1: a line begins with n, t, T, sender, value, bad or round, not with `\\u{1b}[2Jn`"
+    );
+    assert!((200..220).contains(&wrong(1, &"n".repeat(5000)).len()));
     assert_eq!(wrong(2, "t 2"), "line 2: t 2 is above T 1");
     assert_eq!(wrong(3, "T 2"), "line 3: t + 2T is 5, which is not below n 4");
     assert_eq!(wrong(4, "sender 0"), "line 4: station 0: stations are numbered from 1");
@@ -171,4 +179,15 @@ fn made_sheets_are_accepted() {
         }
     }
     assert!(accepted > 1_000, "{accepted}");
+}
+
+#[test]
+fn nobody_is_bad() {
+    let text = "n 4\nt 1\nT 1\nsender 1\nvalue 1\nbad none\nround 1 from all to 2 ballot 1\n";
+    assert_eq!(
+        to_sheet(text).unwrap_err().to_string(),
+        "line 7: no station is bad, so `from all` names none"
+    );
+    let long = "#".repeat((1 << 24) + 1);
+    assert_eq!(to_sheet(&long).unwrap_err().to_string(), "a text has at most 16777216 bytes");
 }

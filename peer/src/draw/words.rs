@@ -16,17 +16,23 @@ pub fn begun(words: &str) -> String {
     letters.next().map_or_else(String::new, |first| first.to_uppercase().chain(letters).collect())
 }
 
+/// The words of a text; a number's name stays with its number, as in `t = 1`.
+fn words(text: &str) -> Vec<String> {
+    let kept = text.replace(" = ", "\u{a0}=\u{a0}");
+    kept.split(' ').map(|word| word.replace('\u{a0}', " ")).collect()
+}
+
 /// Breaks a text into lines that are no wider than this, also in a wide font.
 pub fn lines(text: &str, font: Font, width: i32) -> Vec<String> {
     let most = font.letters(width);
     let mut lines: Vec<String> = Vec::new();
-    for word in text.split(' ') {
+    for word in words(text) {
         match lines.last_mut() {
             Some(line) if line.chars().count() + 1 + word.chars().count() <= most => {
                 line.push(' ');
-                line.push_str(word);
+                line.push_str(&word);
             }
-            _ => lines.push(word.to_string()),
+            _ => lines.push(word),
         }
     }
     lines
@@ -50,5 +56,6 @@ mod tests {
         assert_eq!(lines("one two three", font, 64), ["one two", "three"]);
         assert_eq!(lines("one two th", font, 64), ["one two th"]);
         assert_eq!(lines("longerthanaline x", font, 64), ["longerthanaline", "x"]);
+        assert_eq!(lines("more than t = 1", font, 64), ["more than", "t = 1"]);
     }
 }
