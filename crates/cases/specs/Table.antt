@@ -3,7 +3,7 @@ use Prim.Native.Nat.{ℕ}
 use mathlib.Core.Path.{_≡_}
 use mathlib.Core.List.{List, [], _∷_}
 use lib.ListN.{length}
-use Rattle.line.specs.Cause.{code}
+use Rattle.refusal.specs.Cause.{code}
 use Rattle.sheet.specs.Chain.{Fate}
 use Rattle.listing.specs.Lines.{Field, agree, num, dash, verdict, lines}
 use Rattle.listing.specs.Text.{text}

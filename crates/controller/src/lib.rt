@@ -3,7 +3,7 @@
 ghost use mathlib.Core.Path.{_≡_};
 ghost use Rattle.controller.specs.Words.{station-of, state-word, answer-word, opened-word, told-word, advanced-word, result-word};
 ghost use Rattle.controller.specs.Words.{OpenAnswer, BallotAnswer, AdvanceAnswer, ResultAnswer};
-use line::cause::Cause;
+use refusal::cause::Cause;
 use station::Advanced;
 use station::Opened;
 use station::Station;

@@ -12,14 +12,14 @@ use lib.Seq.{getD-take, length-take-le, take-all, ext-getD}
 use Rattle.line.specs.Count.{if_then_else_, count}
 use Rattle.line.specs.Line.{exchange-length, outcomes-length}
 use Rattle.line.specs.Marks.{marked}
-use Rattle.line.specs.Cause.{written}
-use Rattle.line.specs.Header.{marks-within}
-use Rattle.line.specs.declared.cause.Verdict.{Verdict}
-use Rattle.line.specs.declared.cause.Verdict.the-variants.{Accepted}
+use Rattle.refusal.specs.Cause.{written}
+use Rattle.refusal.specs.Header.{marks-within}
+use Rattle.refusal.specs.declared.cause.Verdict.{Verdict}
+use Rattle.refusal.specs.declared.cause.Verdict.the-variants.{Accepted}
 use Rattle.line.proofs.CountLaws.{none-passes, count-zero, count-hit, count-miss, count-le}
 use Rattle.line.proofs.LineLaws.{place-from-start}
 use Rattle.line.proofs.WritingLaws.{over-length, front-turn, front-at}
-use Rattle.line.proofs.HeaderLaws.{judged, accepted-false, both-accepted, line-sound, length-exact}
+use Rattle.refusal.proofs.HeaderLaws.{judged, accepted-false, both-accepted, line-sound, length-exact}
 use Rattle.broadcast.specs.Exchange.{Row, Setting, sends, first-row, second-row, seconds, z-of, y-of, grade-of, flag-of, z, y, grade}
 use Rattle.broadcast.specs.Station.{at}
 use Rattle.broadcast.specs.Bytes.{tabulate, setting, outcome-byte, outcome-bytes, exchange-outcomes}

@@ -8,11 +8,11 @@ use lib.ListN.{length}
 use Rattle.line.specs.Count.{count}
 use Rattle.line.specs.Line.{exchange-length, outcomes-length}
 use Rattle.line.specs.Marks.{marked}
-use Rattle.line.specs.Cause.{Judged, refused-if, _or-else_, written}
-use Rattle.line.specs.Header.{line-verdict, marks-within, exact-length}
-use Rattle.line.specs.declared.cause.Cause.the-variants.{Value}
-use Rattle.line.specs.declared.cause.Verdict.{Verdict}
-use Rattle.line.specs.declared.cause.Verdict.the-variants.{Accepted}
+use Rattle.refusal.specs.Cause.{Judged, refused-if, _or-else_, written}
+use Rattle.refusal.specs.Header.{line-verdict, marks-within, exact-length}
+use Rattle.refusal.specs.declared.cause.Cause.the-variants.{Value}
+use Rattle.refusal.specs.declared.cause.Verdict.{Verdict}
+use Rattle.refusal.specs.declared.cause.Verdict.the-variants.{Accepted}
 use Rattle.broadcast.specs.Station.{at}
 use Rattle.broadcast.specs.Bytes.{exchange-outcomes}
 use Rattle.broadcast.specs.Guarantees.{GradedConsensus}

@@ -6,8 +6,8 @@ ghost use lib.Dec.{ltb};
 ghost use lib.ListN.{length, getD, take};
 ghost use Rattle.line.specs.Count.{if_then_else_};
 ghost use Rattle.line.specs.Line.{exchange-length, outcomes-length};
-ghost use Rattle.line.specs.Cause.{_or-else_};
-ghost use Rattle.line.specs.Header.{exact-length};
+ghost use Rattle.refusal.specs.Cause.{_or-else_};
+ghost use Rattle.refusal.specs.Header.{exact-length};
 ghost use Rattle.broadcast.specs.Exchange.{z};
 ghost use Rattle.broadcast.specs.Bytes.{tabulate, setting, exchange-outcomes};
 ghost use Rattle.broadcast.specs.Station.{at};
@@ -17,9 +17,9 @@ ghost use Rattle.exchange.specs.Tally.{Graded-is};
 use crate::tally;
 use crate::tally::Graded;
 use line::Line;
-use line::cause::Cause;
-use line::cause::Verdict;
-use line::header;
+use refusal::cause::Cause;
+use refusal::cause::Verdict;
+use refusal::header;
 use line::marks;
 
 // Whether it is an unmarked station's input and not 0 or 1.

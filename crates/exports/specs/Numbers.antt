@@ -2,8 +2,8 @@
 use Prim.Native.Nat.{ℕ}
 use mathlib.Core.Path.{_≡_}
 use mathlib.Core.List.{List}
-use Rattle.line.specs.Cause.{code}
-use Rattle.line.specs.declared.cause.Verdict.{Verdict}
+use Rattle.refusal.specs.Cause.{code}
+use Rattle.refusal.specs.declared.cause.Verdict.{Verdict}
 use Rattle.broadcast.specs.Bytes.{Run}
 use Rattle.exchange.specs.Alone.{Exchanged}
 use Rattle.rehearsal.specs.Promise.{Rehearsed}

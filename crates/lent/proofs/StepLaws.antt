@@ -3,9 +3,9 @@ use Prim.Native.Nat.{ℕ}
 use mathlib.Core.Path.{_≡_, refl, ap, _∙_}
 use mathlib.Core.List.{List}
 use lib.ListN.{length}
-use Rattle.line.specs.Cause.{number, code}
-use Rattle.line.specs.declared.cause.Verdict.{Verdict}
-use Rattle.line.specs.declared.cause.Verdict.the-variants as verdict
+use Rattle.refusal.specs.Cause.{number, code}
+use Rattle.refusal.specs.declared.cause.Verdict.{Verdict}
+use Rattle.refusal.specs.declared.cause.Verdict.the-variants as verdict
 use Rattle.station.specs.declared.Station.{Station}
 use Rattle.station.specs.declared.Advanced.{Advanced}
 use Rattle.station.specs.declared.Advanced.the-variants as advanced

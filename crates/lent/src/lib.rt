@@ -1,7 +1,7 @@
 // A lent station: the caller's own is advanced by one row where it stands. C can call it too, with the struct's nine bytes.
 ghost use mathlib.Core.Path.{_≡_};
 ghost use Rattle.lent.specs.Lent.{taken, AdvancesLent};
-use line::cause::Cause;
+use refusal::cause::Cause;
 use station::Advanced;
 use station::Station;
 

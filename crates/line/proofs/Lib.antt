@@ -3,6 +3,5 @@ pub mod CountLaws
 pub mod LineLaws
 pub mod MarksLaws
 pub mod BallotLaws
-pub mod HeaderLaws
 pub mod WritingLaws
 pub mod Theorems

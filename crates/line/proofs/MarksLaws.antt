@@ -11,8 +11,7 @@ use lib.Arith.{bin-ind}
 use borrow.Author.Tests.{leb-true, leb-false, le-leb, lt-leb, eq-eqb}
 use Rattle.line.specs.Count.{count}
 use Rattle.line.specs.Line.{most-stations}
-use Rattle.line.specs.Marks.{marked, faults}
-use Rattle.line.specs.Header.{mark-beyond}
+use Rattle.line.specs.Marks.{marked, mark-beyond, faults}
 use Rattle.line.proofs.CountLaws.{count-not, count-more}
 
 -- a bit above all that are 1 is no mark

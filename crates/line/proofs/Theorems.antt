@@ -1,8 +1,7 @@
 -- The theorems: each statement of specs/Theorems.antt, under its name, and the law that proves it. Assumes nothing.
-use Rattle.line.specs.Theorems.{Faults-and-good, Faults-are-marks, Place-is, Place-steps, Table-bound, Table-reached, Beyond-none, Beyond-some, Header-sound, Header-accepts}
+use Rattle.line.specs.Theorems.{Faults-and-good, Faults-are-marks, Place-is, Place-steps, Table-bound, Table-reached, Beyond-none, Beyond-some}
 use Rattle.line.proofs.LineLaws as line
 use Rattle.line.proofs.MarksLaws as marks
-use Rattle.line.proofs.HeaderLaws as header
 
 pub faults-and-good : Faults-and-good
 faults-and-good = marks.faults-and-good
@@ -27,9 +26,3 @@ beyond-none = marks.beyond-none
 
 pub beyond-some : Beyond-some
 beyond-some = marks.beyond-some
-
-pub header-sound : Header-sound
-header-sound = header.header-sound
-
-pub header-accepts : Header-accepts
-header-accepts = header.header-accepts

@@ -1,10 +1,8 @@
--- The line of stations (document 01, "Names" and "Refused causes"), in the document's order. Nothing is proved here; Theorems says what
+-- The line of stations (document 01, "Names"), in the document's order. Nothing is proved here; Theorems says what
 -- proofs/ proves. Writing is for private functions only.
 pub mod Count
 pub mod Line
 pub mod Marks
 pub mod Ballot
-pub mod Cause
-pub mod Header
 pub mod Theorems
 pub mod Writing

@@ -1,7 +1,7 @@
 -- Who is bad (document 01, "Names" and "The run sheet").
 use Prim.Native.Nat.{ℕ, _/_, _%_, _^_}
 use mathlib.Core.Bool.{Bool}
-use lib.Dec.{eqb}
+use lib.Dec.{leb, eqb}
 use Rattle.line.specs.Count.{count}
 
 -- "the marks, bit i−1 for station i": i is counted from 0 here. "A station is bad if marked, otherwise good."
@@ -11,3 +11,7 @@ marked marks i = eqb (marks / 2 ^ i % 2) 1
 -- f, "f counts the marked stations.": how many of the stations 0 to n - 1 are bad
 abbrev pub faults : ℕ → (ℕ → Bool) → ℕ
 faults n bad = count n bad
+
+-- "a mark beyond station n" (cause 6): bit n, counted from 0, or a higher one is 1 (`Beyond-none` and `Beyond-some`)
+unfoldable pub mark-beyond : ℕ → ℕ → Bool
+mark-beyond n marks = leb (2 ^ n) marks

@@ -1,12 +1,10 @@
 -- The statements that proofs/Theorems.antt proves, each under the same name in lower case.
-use Prim.Native.Nat.{ℕ, _+_, _-_, _*_, _≤_, _<_}
+use Prim.Native.Nat.{ℕ, _+_, _-_, _*_, _≤_}
 use mathlib.Core.Path.{_≡_}
 use mathlib.Core.Bool.{Bool, true, false, not}
 use Rattle.line.specs.Count.{count}
-use Rattle.line.specs.Line.{most-stations, Fits, rounds, table-length, place, largest-table}
-use Rattle.line.specs.Marks.{marked, faults}
-use Rattle.line.specs.Header.{mark-beyond, header-verdict, Sound}
-use Rattle.line.specs.declared.cause.Verdict.the-variants.{Accepted}
+use Rattle.line.specs.Line.{most-stations, Fits, table-length, place, largest-table}
+use Rattle.line.specs.Marks.{marked, mark-beyond, faults}
 
 -- ---- f
 
@@ -42,7 +40,7 @@ Table-bound = (n t T : ℕ) → n ≤ most-stations → Fits n t T → table-len
 abbrev pub Table-reached : Type 0
 Table-reached = Fits 32 10 10 × (table-length 32 10 ≡ largest-table)
 
--- ---- the header
+-- ---- marks
 
 -- "a mark beyond station n" is there exactly if some station from n on, counted from 0, is marked
 abbrev pub Beyond-none : Type 0
@@ -50,12 +48,3 @@ Beyond-none = (n marks i : ℕ) → mark-beyond n marks ≡ false → n ≤ i �
 
 abbrev pub Beyond-some : Type 0
 Beyond-some = (n marks : ℕ) → mark-beyond n marks ≡ true → (i : ℕ) × (n ≤ i) × (marked marks i ≡ true)
-
--- a header is accepted exactly if every number is as document 01 wants it
-abbrev pub Header-sound : Type 0
-Header-sound =
-    (n t T sender value marks : ℕ) → header-verdict n t T sender value marks ≡ Accepted → Sound n t T sender value marks
-
-abbrev pub Header-accepts : Type 0
-Header-accepts =
-    (n t T sender value marks : ℕ) → Sound n t T sender value marks → header-verdict n t T sender value marks ≡ Accepted

@@ -1,15 +1,13 @@
-// The line of stations: its type with what follows from n, t and T, the readings of a ballot byte, marks, and the causes of refusal.
+// The line of stations: its type with what follows from n, t and T, the readings of a ballot byte, and marks.
 ghost use mathlib.Core.Path.{_≡_};
 ghost use Rattle.line.specs.Line.{most-stations, rounds, table-length, largest-table, exchange-length, outcomes-length};
 ghost use Rattle.line.specs.Ballot.{blank, silence};
 
 pub mod ballot;
-pub mod cause;
-pub mod header;
 pub mod marks;
 
 // A line of n stations with the thresholds t and T (document 01, "Names"). T is called upper in code, where names by convention are lower case.
-// Any bytes at all may stand in it: header::line_verdict judges them.
+// Any bytes at all may stand in it: refusal::header::line_verdict judges them.
 pub struct Line {
     pub n: u8,
     pub t: u8,

@@ -11,10 +11,10 @@ use borrow.Author.Tests.{ltb-true, ltb-false}
 use Rattle.line.specs.Count.{if_then_else_}
 use Rattle.line.specs.Line.{rounds}
 use Rattle.line.specs.Marks.{marked}
-use Rattle.line.specs.Cause.{number}
-use Rattle.line.specs.declared.cause.Verdict.{Verdict}
-use Rattle.line.specs.declared.cause.Verdict.the-variants.{Accepted, Refused}
-use Rattle.line.proofs.HeaderLaws.{both-accepted}
+use Rattle.refusal.specs.Cause.{number}
+use Rattle.refusal.specs.declared.cause.Verdict.{Verdict}
+use Rattle.refusal.specs.declared.cause.Verdict.the-variants.{Accepted, Refused}
+use Rattle.refusal.proofs.HeaderLaws.{both-accepted}
 use Rattle.broadcast.specs.Exchange.{flag-of}
 use Rattle.broadcast.specs.Station.{at}
 use Rattle.broadcast.specs.Bytes.{outcomes}

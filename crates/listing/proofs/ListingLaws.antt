@@ -6,12 +6,12 @@ use native.Mathlib.Omega.{arith}
 use lib.ListN.{length, take, drop, take-append-drop}
 use lib.Seq.{length-take-le}
 use Rattle.line.specs.Line.{table-length, outcomes-length}
-use Rattle.line.specs.Cause.{number, _or-else_, written}
-use Rattle.line.specs.Header.{exact-length}
-use Rattle.line.specs.declared.cause.Cause.{Cause}
-use Rattle.line.specs.declared.cause.Verdict.{Verdict}
-use Rattle.line.specs.declared.cause.Verdict.the-variants as verdict
-use Rattle.line.proofs.HeaderLaws.{both-accepted, header-accepts, length-accepts}
+use Rattle.refusal.specs.Cause.{number, _or-else_, written}
+use Rattle.refusal.specs.Header.{exact-length}
+use Rattle.refusal.specs.declared.cause.Cause.{Cause}
+use Rattle.refusal.specs.declared.cause.Verdict.{Verdict}
+use Rattle.refusal.specs.declared.cause.Verdict.the-variants as verdict
+use Rattle.refusal.proofs.HeaderLaws.{both-accepted, header-accepts, length-accepts}
 use Rattle.broadcast.specs.Bytes.{log}
 use Rattle.rehearsal.specs.Promise.{rehearsal-verdict, Rehearsed}
 use Rattle.sheet.specs.declared.Header.{Header}

@@ -7,13 +7,13 @@ use native.Mathlib.Nat.{min-eq-left, le-trans}
 use lib.ListN.{length, drop}
 use lib.Seq.{take-append-seam}
 use Rattle.line.specs.Line.{largest-table}
-use Rattle.line.specs.Cause.{_or-else_}
-use Rattle.line.specs.Header.{header-verdict}
-use Rattle.line.specs.declared.cause.Cause.{Cause}
-use Rattle.line.specs.declared.cause.Verdict.{Verdict}
-use Rattle.line.specs.declared.cause.Verdict.the-variants.{Accepted, Refused}
+use Rattle.refusal.specs.Cause.{_or-else_}
+use Rattle.refusal.specs.Header.{header-verdict}
+use Rattle.refusal.specs.declared.cause.Cause.{Cause}
+use Rattle.refusal.specs.declared.cause.Verdict.{Verdict}
+use Rattle.refusal.specs.declared.cause.Verdict.the-variants.{Accepted, Refused}
 use Rattle.line.proofs.LineLaws.{table-bound}
-use Rattle.line.proofs.HeaderLaws.{header-sound}
+use Rattle.refusal.proofs.HeaderLaws.{header-sound}
 use Rattle.sheet.specs.Layout.{header}
 use Rattle.sheet.specs.Chain.{Fate}
 use Rattle.sheet.specs.Judgement.{sheet-form, line-and-length, verdict-to-8, chain-verdict, sheet-verdict}

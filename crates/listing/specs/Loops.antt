@@ -4,8 +4,8 @@ use mathlib.Core.Path.{_≡_}
 use mathlib.Core.List.{List}
 use lib.ListN.{length}
 use Rattle.line.specs.Line.{table-length}
-use Rattle.line.specs.Cause.{written}
-use Rattle.line.specs.Header.{exact-length}
+use Rattle.refusal.specs.Cause.{written}
+use Rattle.refusal.specs.Header.{exact-length}
 use Rattle.broadcast.specs.Bytes.{log, outcomes}
 use Rattle.sheet.specs.declared.Header.{Header}
 use Rattle.sheet.specs.Layout.{header}

@@ -4,7 +4,7 @@ use mathlib.Core.Path.{_≡_}
 use mathlib.Core.List.{List}
 use lib.ListN.{length, take}
 use Rattle.line.specs.Line.{table-length}
-use Rattle.line.specs.Cause.{written}
+use Rattle.refusal.specs.Cause.{written}
 use Rattle.broadcast.specs.Bytes.{log, outcomes}
 use Rattle.sheet.specs.Layout.{header}
 use Rattle.sheet.specs.Chain.{Fate}

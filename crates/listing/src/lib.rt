@@ -7,7 +7,7 @@ ghost use Rattle.sheet.specs.Layout.{byte};
 ghost use Rattle.listing.specs.Promise.{wanted, Lists};
 ghost use Rattle.listing.specs.Loops.{Readable, Runs, ListsWhole};
 use line::Line;
-use line::cause::Verdict;
+use refusal::cause::Verdict;
 use sheet::Header;
 use sheet::Reading;
 

@@ -4,7 +4,7 @@ ghost use mathlib.Core.Path.{_≡_};
 ghost use mathlib.Core.List.{[], _∷_};
 ghost use Prim.Native.Nat.{_+_, _≤_, _<_};
 ghost use lib.ListN.{length};
-ghost use Rattle.line.specs.declared.cause.Verdict.the-variants.{Accepted};
+ghost use Rattle.refusal.specs.declared.cause.Verdict.the-variants.{Accepted};
 ghost use Rattle.listing.specs.Lines.{num, dash, refused, first-line, station-line, station-lines, lines-by};
 ghost use Rattle.listing.specs.Text.{space, digit, decimal, line-text, text};
 ghost use Rattle.listing.specs.Loops.{Puts, Shown};

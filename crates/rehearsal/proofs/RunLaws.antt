@@ -13,8 +13,8 @@ use lib.Seq.{ext-getD}
 use Rattle.line.specs.Count.{if_then_else_}
 use Rattle.line.specs.Line.{rounds, table-length, outcomes-length, place}
 use Rattle.line.specs.Marks.{marked}
-use Rattle.line.specs.Header.{Sound}
-use Rattle.line.specs.declared.cause.Verdict.the-variants.{Accepted}
+use Rattle.refusal.specs.Header.{Sound}
+use Rattle.refusal.specs.declared.cause.Verdict.the-variants.{Accepted}
 use Rattle.line.proofs.CountLaws.{le-or-lt}
 use Rattle.line.proofs.LineLaws.{table-bound, place-from-start}
 use Rattle.broadcast.specs.Station.{ballot, at, after}

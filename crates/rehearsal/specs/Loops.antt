@@ -9,7 +9,7 @@ use lib.ListN.{length, getD, set, take, drop}
 use Rattle.line.specs.Count.{if_then_else_}
 use Rattle.line.specs.Line.{table-length}
 use Rattle.line.specs.Marks.{marked}
-use Rattle.line.specs.Header.{Sound}
+use Rattle.refusal.specs.Header.{Sound}
 use Rattle.broadcast.specs.Station.{after}
 use Rattle.broadcast.specs.Bytes.{tabulate, Run, log, outcomes, setup, column}
 use Rattle.station.specs.declared.Station.{Station}

@@ -5,8 +5,8 @@ ghost use Rattle.rehearsal.specs.Loops.{Playable, Ran};
 ghost use lib.ListN.{length};
 ghost use Rattle.line.specs.Line.{outcomes-length};
 use line::Line;
-use line::cause::Verdict;
-use line::header;
+use refusal::cause::Verdict;
+use refusal::header;
 
 mod play;
 mod post;

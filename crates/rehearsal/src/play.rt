@@ -4,7 +4,7 @@ ghost use Prim.Native.Nat.{ℕ, _+_, _*_, _≤_, _<_};
 ghost use lib.ListN.{length, getD, take, drop};
 ghost use Rattle.station.specs.Automaton.{opened-station, advanced-or-same};
 ghost use Rattle.station.specs.Judgement.{opening-verdict};
-ghost use Rattle.line.specs.declared.cause.Verdict.the-variants.{Accepted};
+ghost use Rattle.refusal.specs.declared.cause.Verdict.the-variants.{Accepted};
 ghost use Rattle.line.specs.Line.{rounds};
 ghost use Rattle.rehearsal.specs.Promise.{run-of};
 ghost use Rattle.line.specs.Writing.{over};

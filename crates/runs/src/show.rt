@@ -1,7 +1,7 @@
 // What is printed of a run.
 use libc::STDOUT_FILENO;
-use line::cause::Cause;
-use line::cause::Verdict;
+use refusal::cause::Cause;
+use refusal::cause::Verdict;
 use sheet::Header;
 use sheet::Reading;
 

@@ -7,8 +7,8 @@ use native.Mathlib.Omega.{arith}
 use lib.Dec.{ltb, eqb}
 use lib.ListN.{length}
 use borrow.Author.Tests.{eqb-true, eq-eqb, ltb-false, lt-ltb, le-ltb, not-false}
-use Rattle.line.specs.declared.cause.Verdict.the-variants.{Accepted}
-use Rattle.line.proofs.HeaderLaws.{refused-false, accepted-false, neither}
+use Rattle.refusal.specs.declared.cause.Verdict.the-variants.{Accepted}
+use Rattle.refusal.proofs.HeaderLaws.{refused-false, accepted-false, neither}
 use Rattle.sheet.specs.Layout.{spare, most-records, records}
 use Rattle.sheet.specs.Judgement.{ill-formed, sheet-form}
 use Rattle.sheet.specs.Theorems.{WellFormed}

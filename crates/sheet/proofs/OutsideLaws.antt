@@ -8,8 +8,8 @@ use native.Mathlib.Nat.{add-assoc, add-zero}
 use native.Mathlib.Omega.{arith}
 use lib.Dec.{ltb}
 use borrow.Author.Tests.{ltb-true}
-use Rattle.line.specs.Cause.{refused-if}
-use Rattle.line.specs.declared.cause.Cause.the-variants.{Duplicate}
+use Rattle.refusal.specs.Cause.{refused-if}
+use Rattle.refusal.specs.declared.cause.Cause.the-variants.{Duplicate}
 use Rattle.line.proofs.CountLaws.{count-same}
 use Rattle.sheet.specs.Layout.{byte, two, four, header, spare, first, records, start, round, from, to, ballot, next, rest}
 use Rattle.sheet.specs.Chain.{Record, reached, after, Fate, leaves, again, ends}

@@ -8,9 +8,9 @@ use native.Mathlib.Omega.{arith}
 use lib.Dec.{eqb}
 use borrow.Author.Tests.{eqb-true, eq-eqb, not-false}
 use Rattle.line.specs.Line.{rounds, table-length, largest-table}
-use Rattle.line.specs.Header.{outside}
+use Rattle.refusal.specs.Header.{outside}
 use Rattle.line.proofs.LineLaws.{place-below, place-round, place-from, place-to, table-bound}
-use Rattle.line.proofs.HeaderLaws.{inside, neither}
+use Rattle.refusal.proofs.HeaderLaws.{inside, neither}
 use Rattle.sheet.specs.Layout.{header, round, from, to, rest}
 use Rattle.sheet.specs.Judgement.{misplaced, same-place}
 use Rattle.sheet.specs.Reading.{place-of}

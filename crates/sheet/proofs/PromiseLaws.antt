@@ -4,12 +4,12 @@ use mathlib.Core.Path.{_≡_, refl}
 use mathlib.Core.List.{List}
 use lib.ListN.{length}
 use Rattle.line.specs.Line.{table-length}
-use Rattle.line.specs.Cause.{code, written, given}
-use Rattle.line.specs.Header.{header-verdict, exact-length}
-use Rattle.line.specs.declared.cause.Cause.{Cause}
-use Rattle.line.specs.declared.cause.Verdict.{Verdict}
-use Rattle.line.specs.declared.cause.Verdict.the-variants as verdict
-use Rattle.line.proofs.HeaderLaws.{both-accepted, header-sound, length-exact}
+use Rattle.refusal.specs.Cause.{code, written, given}
+use Rattle.refusal.specs.Header.{header-verdict, exact-length}
+use Rattle.refusal.specs.declared.cause.Cause.{Cause}
+use Rattle.refusal.specs.declared.cause.Verdict.{Verdict}
+use Rattle.refusal.specs.declared.cause.Verdict.the-variants as verdict
+use Rattle.refusal.proofs.HeaderLaws.{both-accepted, header-sound, length-exact}
 use Rattle.sheet.specs.declared.Header.{Header}
 use Rattle.sheet.specs.declared.Reading.{Reading}
 use Rattle.sheet.specs.declared.Reading.the-variants as reading

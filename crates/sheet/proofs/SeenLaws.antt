@@ -14,12 +14,12 @@ use lib.ListN.{length, getD, length-set, length-replicate, getD-replicate}
 use lib.Seq.{getD-set-same, getD-set-other}
 use Rattle.line.specs.Line.{largest-table}
 use Rattle.line.specs.Count.{count}
-use Rattle.line.specs.Cause.{refused-if, _or-else_}
-use Rattle.line.specs.declared.cause.Cause.{Cause}
-use Rattle.line.specs.declared.cause.Cause.the-variants.{RecordForm, Duplicate}
-use Rattle.line.specs.declared.cause.Verdict.{Verdict}
-use Rattle.line.specs.declared.cause.Verdict.the-variants.{Accepted, Refused}
-use Rattle.line.proofs.HeaderLaws.{refused-true, both-accepted}
+use Rattle.refusal.specs.Cause.{refused-if, _or-else_}
+use Rattle.refusal.specs.declared.cause.Cause.{Cause}
+use Rattle.refusal.specs.declared.cause.Cause.the-variants.{RecordForm, Duplicate}
+use Rattle.refusal.specs.declared.cause.Verdict.{Verdict}
+use Rattle.refusal.specs.declared.cause.Verdict.the-variants.{Accepted, Refused}
+use Rattle.refusal.proofs.HeaderLaws.{refused-true, both-accepted}
 use Rattle.sheet.specs.Layout.{header}
 use Rattle.sheet.specs.Chain.{reached}
 use Rattle.sheet.specs.Judgement.{misplaced, record-form, unmarked-sender, same-place, taken-before, duplicate, record-verdict, records-verdict}

@@ -13,11 +13,11 @@ use borrow.Author.Tests.{ltb-false, not-false}
 use Rattle.line.specs.Line.{rounds, table-length, place}
 use Rattle.line.specs.Marks.{marked}
 use Rattle.line.specs.Count.{count}
-use Rattle.line.specs.Cause.{_or-else_}
-use Rattle.line.specs.declared.cause.Verdict.the-variants.{Accepted}
+use Rattle.refusal.specs.Cause.{_or-else_}
+use Rattle.refusal.specs.declared.cause.Verdict.the-variants.{Accepted}
 use Rattle.line.proofs.CountLaws.{none-passes}
 use Rattle.line.proofs.LineLaws.{place-below, place-from}
-use Rattle.line.proofs.HeaderLaws.{never, accepted-false, both-accepted}
+use Rattle.refusal.proofs.HeaderLaws.{never, accepted-false, both-accepted}
 use Rattle.sheet.specs.Layout.{header, from, ballot}
 use Rattle.sheet.specs.Chain.{Record, reached, Ends, Fate, leaves, again, ends}
 use Rattle.sheet.specs.Judgement.{misplaced, record-form, unmarked-sender, same-place, taken-before, duplicate, record-verdict, records-verdict, verdict-to-8, chain-verdict, sheet-verdict}

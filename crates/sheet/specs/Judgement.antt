@@ -7,11 +7,11 @@ use lib.ListN.{length}
 use Rattle.line.specs.Count.{count}
 use Rattle.line.specs.Line.{from-0, rounds, table-length}
 use Rattle.line.specs.Marks.{marked}
-use Rattle.line.specs.Cause.{refused-if, _or-else_}
-use Rattle.line.specs.Header.{outside, header-verdict, exact-length}
-use Rattle.line.specs.declared.cause.Cause.the-variants.{SheetForm, ChainLeaves, ChainRepeats, RecordForm, UnmarkedSender, Duplicate}
-use Rattle.line.specs.declared.cause.Verdict.{Verdict}
-use Rattle.line.specs.declared.cause.Verdict.the-variants.{Accepted, Refused}
+use Rattle.refusal.specs.Cause.{refused-if, _or-else_}
+use Rattle.refusal.specs.Header.{outside, header-verdict, exact-length}
+use Rattle.refusal.specs.declared.cause.Cause.the-variants.{SheetForm, ChainLeaves, ChainRepeats, RecordForm, UnmarkedSender, Duplicate}
+use Rattle.refusal.specs.declared.cause.Verdict.{Verdict}
+use Rattle.refusal.specs.declared.cause.Verdict.the-variants.{Accepted, Refused}
 use Rattle.sheet.specs.Layout.{header, spare, most-records, records, round, from, to, rest}
 use Rattle.sheet.specs.Chain.{reached, Fate, leaves, again, ends}
 

@@ -6,11 +6,11 @@ use mathlib.Core.List.{List}
 use lib.Dec.{eqb}
 use lib.ListN.{length, getD, set, replicate}
 use Rattle.line.specs.Line.{rounds, table-length, largest-table}
-use Rattle.line.specs.Cause.{refused-if, _or-else_, written}
-use Rattle.line.specs.Header.{Sound}
-use Rattle.line.specs.declared.cause.Cause.the-variants.{Duplicate}
-use Rattle.line.specs.declared.cause.Verdict.{Verdict}
-use Rattle.line.specs.declared.cause.Verdict.the-variants.{Accepted}
+use Rattle.refusal.specs.Cause.{refused-if, _or-else_, written}
+use Rattle.refusal.specs.Header.{Sound}
+use Rattle.refusal.specs.declared.cause.Cause.the-variants.{Duplicate}
+use Rattle.refusal.specs.declared.cause.Verdict.{Verdict}
+use Rattle.refusal.specs.declared.cause.Verdict.the-variants.{Accepted}
 use Rattle.sheet.specs.declared.Header.{Header}
 use Rattle.sheet.specs.Layout.{header, records, most-records}
 use Rattle.sheet.specs.Chain.{Record, reached, Leaves, Again, Ends}

@@ -5,9 +5,9 @@ use mathlib.Core.List.{List, [], _∷_}
 use lib.ListN.{length, set, replicate}
 use Rattle.line.specs.Line.{from-0, table-length, place}
 use Rattle.line.specs.Ballot.{silence}
-use Rattle.line.specs.Cause.{number, code, written, given}
-use Rattle.line.specs.declared.cause.Verdict.{Verdict}
-use Rattle.line.specs.declared.cause.Verdict.the-variants as verdict
+use Rattle.refusal.specs.Cause.{number, code, written, given}
+use Rattle.refusal.specs.declared.cause.Verdict.{Verdict}
+use Rattle.refusal.specs.declared.cause.Verdict.the-variants as verdict
 use Rattle.sheet.specs.declared.Header.{Header}
 use Rattle.sheet.specs.declared.Reading.{Reading}
 use Rattle.sheet.specs.declared.Reading.the-variants as reading

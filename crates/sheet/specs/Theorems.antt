@@ -7,7 +7,7 @@ use mathlib.Core.List.{List}
 use lib.ListN.{length, getD}
 use Rattle.line.specs.Line.{rounds, table-length, place}
 use Rattle.line.specs.Marks.{marked}
-use Rattle.line.specs.declared.cause.Verdict.the-variants.{Accepted}
+use Rattle.refusal.specs.declared.cause.Verdict.the-variants.{Accepted}
 use Rattle.sheet.specs.Layout.{byte, header, spare, most-records, records, start, ballot}
 use Rattle.sheet.specs.Chain.{Record, reached, Leaves, Again, Ends, Fate}
 use Rattle.sheet.specs.Judgement.{sheet-form, sheet-verdict}

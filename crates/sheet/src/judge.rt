@@ -12,9 +12,9 @@ ghost use Rattle.sheet.specs.Reading.{place-of};
 ghost use Rattle.sheet.specs.Loops.{Lined, Placed, unseen, looked, marked-seen, record-by};
 use crate::layout;
 use line::Line;
-use line::cause::Cause;
-use line::cause::Verdict;
-use line::header;
+use refusal::cause::Cause;
+use refusal::cause::Verdict;
+use refusal::header;
 use line::marks;
 
 // Cause 1.

@@ -1,14 +1,14 @@
 // The reader of run sheets: a sheet of any bytes and a lent table of any length give the header's numbers and the table, or the one refusal.
 ghost use mathlib.Core.Path.{_≡_};
 ghost use lib.ListN.{length};
-ghost use Rattle.line.specs.declared.cause.Verdict.the-variants.{Accepted};
+ghost use Rattle.refusal.specs.declared.cause.Verdict.the-variants.{Accepted};
 ghost use Rattle.sheet.specs.Judgement.{verdict-to-8};
 ghost use Rattle.sheet.specs.Chain.{Ends};
 ghost use Rattle.sheet.specs.Reading.{Reads};
 use crate::chain::Walked;
 use line::Line;
-use line::cause::Cause;
-use line::cause::Verdict;
+use refusal::cause::Cause;
+use refusal::cause::Verdict;
 
 mod chain;
 mod fill;

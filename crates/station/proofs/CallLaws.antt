@@ -6,11 +6,11 @@ use native.Mathlib.Omega.{arith}
 use lib.ListN.{length}
 use borrow.Author.Tests.{eq-eqb, ltb-false}
 use Rattle.line.specs.Line.{rounds, Fits}
-use Rattle.line.specs.Header.{station-number, bit}
-use Rattle.line.specs.declared.cause.Cause.the-variants.{StationState}
-use Rattle.line.specs.declared.cause.Verdict.{Verdict}
-use Rattle.line.specs.declared.cause.Verdict.the-variants.{Accepted, Refused}
-use Rattle.line.proofs.HeaderLaws.{both-accepted, accepted-false, refused-true, inside, line-sound}
+use Rattle.refusal.specs.Header.{station-number, bit}
+use Rattle.refusal.specs.declared.cause.Cause.the-variants.{StationState}
+use Rattle.refusal.specs.declared.cause.Verdict.{Verdict}
+use Rattle.refusal.specs.declared.cause.Verdict.the-variants.{Accepted, Refused}
+use Rattle.refusal.proofs.HeaderLaws.{both-accepted, accepted-false, refused-true, inside, line-sound}
 use Rattle.broadcast.specs.Station.{advance, result, at, after}
 use Rattle.broadcast.proofs.RoundLaws.{after-range, after-round, done-after}
 use Rattle.station.specs.declared.Station.{Station}

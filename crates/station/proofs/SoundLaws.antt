@@ -7,11 +7,11 @@ use native.Mathlib.Omega.{arith}
 use lib.ListN.{length}
 use borrow.Author.Tests.{ltb-false, eqb-false, le-ltb, ne-eqb}
 use Rattle.line.specs.Line.{rounds}
-use Rattle.line.specs.Header.{station-number}
-use Rattle.line.specs.declared.cause.Verdict.the-variants.{Accepted}
+use Rattle.refusal.specs.Header.{station-number}
+use Rattle.refusal.specs.declared.cause.Verdict.the-variants.{Accepted}
 use Rattle.line.proofs.CountLaws.{le-or-lt}
-use Rattle.line.specs.Header as header
-use Rattle.line.proofs.HeaderLaws.{both-accepted, accepted-false, refused-false, neither, inside, inside-not, line-sound, line-accepts, length-exact, number-accepts, bit-accepts, length-accepts}
+use Rattle.refusal.specs.Header as header
+use Rattle.refusal.proofs.HeaderLaws.{both-accepted, accepted-false, refused-false, neither, inside, inside-not, line-sound, line-accepts, length-exact, number-accepts, bit-accepts, length-accepts}
 use Rattle.station.specs.declared.Station.{Station}
 use Rattle.station.specs.Judgement.{foreign-state, is-done, state-verdict, station-verdict, telling-verdict, taking-verdict, opening-verdict, Sound, Ready}
 

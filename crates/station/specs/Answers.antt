@@ -4,9 +4,9 @@ use Prim.Native.Nat.{ℕ}
 use mathlib.Core.Path.{_≡_}
 use mathlib.Core.List.{List, [], _∷_}
 use lib.ListN.{length}
-use Rattle.line.specs.Cause.{number, code, given}
-use Rattle.line.specs.declared.cause.Verdict.{Verdict}
-use Rattle.line.specs.declared.cause.Verdict.the-variants as verdict
+use Rattle.refusal.specs.Cause.{number, code, given}
+use Rattle.refusal.specs.declared.cause.Verdict.{Verdict}
+use Rattle.refusal.specs.declared.cause.Verdict.the-variants as verdict
 use Rattle.broadcast.specs.Station.{ballot, advance, Result, running, done, result, at}
 use Rattle.station.specs.declared.Station.{Station}
 use Rattle.station.specs.declared.Opened.{Opened}

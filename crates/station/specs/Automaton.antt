@@ -5,8 +5,8 @@ use mathlib.Core.List.{List}
 use lib.ListN.{length}
 use Rattle.line.specs.Line.{from-0}
 use Rattle.line.specs.Ballot.{silence}
-use Rattle.line.specs.declared.cause.Verdict.{Verdict}
-use Rattle.line.specs.declared.cause.Verdict.the-variants.{Accepted, Refused}
+use Rattle.refusal.specs.declared.cause.Verdict.{Verdict}
+use Rattle.refusal.specs.declared.cause.Verdict.the-variants.{Accepted, Refused}
 use Rattle.broadcast.specs.Station.{Setup, State, opened, ballot, advance, Result, running, done, result, at}
 use Rattle.station.specs.declared.Station.{Station}
 use Rattle.station.specs.declared.StationResult.{StationResult}

@@ -6,10 +6,10 @@ use mathlib.Core.List.{List}
 use lib.Dec.{ltb, eqb}
 use lib.ListN.{length}
 use Rattle.line.specs.Line.{Fits, rounds}
-use Rattle.line.specs.Cause.{refused-if, _or-else_}
-use Rattle.line.specs.Header.{outside, line-verdict, station-number, bit, exact-length}
-use Rattle.line.specs.declared.cause.Cause.the-variants.{StationState}
-use Rattle.line.specs.declared.cause.Verdict.{Verdict}
+use Rattle.refusal.specs.Cause.{refused-if, _or-else_}
+use Rattle.refusal.specs.Header.{outside, line-verdict, station-number, bit, exact-length}
+use Rattle.refusal.specs.declared.cause.Cause.the-variants.{StationState}
+use Rattle.refusal.specs.declared.cause.Verdict.{Verdict}
 use Rattle.station.specs.declared.Station.{Station}
 
 -- "a station state whose round is outside 1 to R+1, value above 1, z or grade above 2"

@@ -4,8 +4,8 @@ use mathlib.Core.Path.{_≡_}
 use mathlib.Core.List.{List}
 use lib.ListN.{length}
 use Rattle.line.specs.Line.{from-0, rounds}
-use Rattle.line.specs.declared.cause.Cause.the-variants.{StationState}
-use Rattle.line.specs.declared.cause.Verdict.the-variants.{Accepted}
+use Rattle.refusal.specs.declared.cause.Cause.the-variants.{StationState}
+use Rattle.refusal.specs.declared.cause.Verdict.the-variants.{Accepted}
 use Rattle.broadcast.specs.Exchange.{flag-of}
 use Rattle.broadcast.specs.Station.{Setup, State, ballot, after}
 use Rattle.station.specs.declared.Station.{Station}

@@ -5,9 +5,9 @@ ghost use Rattle.line.specs.Line.{rounds};
 ghost use Rattle.station.specs.Judgement.{foreign-state, is-done, state-verdict, station-verdict, telling-verdict, taking-verdict, opening-verdict};
 use crate::Station;
 use line::Line;
-use line::cause::Cause;
-use line::cause::Verdict;
-use line::header;
+use refusal::cause::Cause;
+use refusal::cause::Verdict;
+use refusal::header;
 
 // R + 1, the round of a done station.
 fn last_round(t: u8) -> usize

@@ -5,8 +5,8 @@ ghost use lib.ListN.{length};
 ghost use Rattle.station.specs.Answers.{Opens, Tells, Advances, Results};
 ghost use Rattle.station.specs.Automaton.{ballot-or-silence, advanced-or-same};
 use line::Line;
-use line::cause::Cause;
-use line::cause::Verdict;
+use refusal::cause::Cause;
+use refusal::cause::Verdict;
 
 mod judge;
 mod step;

@@ -3,7 +3,7 @@ use borrow.Author.Needs.{needs}
 use Prim.Native.Nat.{_-_, _≤_}
 use mathlib.Core.Path.{_≡_, refl, sym, _∙_}
 use native.Mathlib.Omega.{arith}
-use Rattle.line.specs.declared.cause.Verdict.the-variants.{Accepted}
+use Rattle.refusal.specs.declared.cause.Verdict.the-variants.{Accepted}
 use Rattle.sheet.specs.Chain.{reached}
 use Rattle.sheet.specs.Judgement.{records-verdict}
 use Rattle.sheet.specs.Loops as loops

@@ -2,7 +2,7 @@
 use borrow.Author.Needs.{needs}
 use mathlib.Core.Path.{refl}
 use Rattle.sheet.specs.Loops.{looked, marked-seen}
-use Rattle.line.proofs.HeaderLaws.{refused-true, refused-false}
+use Rattle.refusal.proofs.HeaderLaws.{refused-true, refused-false}
 use borrow.Author.Tests.{eq-eqb, ne-eqb}
 use mathlib.Core.Path.{sym}
 use Rattle.sheet.proofs.judge.look.Statement.{statement}

@@ -1,8 +1,8 @@
 -- `judge::record` meets its contract: 11, 12 and 13, one after the other.
 use borrow.Author.Needs.{needs}
 use mathlib.Core.Path.{refl, sym, _∙_}
-use Rattle.line.specs.declared.cause.Cause.the-variants.{RecordForm, UnmarkedSender}
-use Rattle.line.proofs.HeaderLaws.{refused-true, refused-false}
+use Rattle.refusal.specs.declared.cause.Cause.the-variants.{RecordForm, UnmarkedSender}
+use Rattle.refusal.proofs.HeaderLaws.{refused-true, refused-false}
 use Rattle.sheet.specs.Judgement.{misplaced, record-form, unmarked-sender}
 use Rattle.sheet.specs.Loops.{record-by, marked-seen}
 use Rattle.sheet.proofs.judge.record.Statement.{statement}

@@ -2,8 +2,8 @@
 use borrow.Author.Needs.{needs}
 use mathlib.Core.Path.{sym, _∙_}
 use native.Mathlib.Omega.{arith}
-use Rattle.line.proofs.HeaderLaws.{refused-true, refused-false}
-use Rattle.line.specs.declared.cause.Cause.the-variants.{SheetForm}
+use Rattle.refusal.proofs.HeaderLaws.{refused-true, refused-false}
+use Rattle.refusal.specs.declared.cause.Cause.the-variants.{SheetForm}
 use Rattle.sheet.specs.Judgement.{verdict-to-8, sheet-form}
 use Rattle.sheet.proofs.FormLaws.{form-sound}
 use Rattle.sheet.proofs.judge.to_8.Statement.{statement}

@@ -4,7 +4,7 @@ use Prim.Native.Nat.{_+_}
 use native.Mathlib.Omega.{arith}
 use borrow.Author.Tests.{lt-ltb, le-ltb}
 use Rattle.line.specs.Line.{rounds}
-use Rattle.line.specs.Header.{outside}
+use Rattle.refusal.specs.Header.{outside}
 use Rattle.station.specs.Judgement.{foreign-state}
 use Rattle.station.proofs.judge.foreign_state.Statement.{statement}
 use Rattle.station.proofs.judge.foreign_state.Tie as tie

@@ -1,0 +1,18 @@
+-- `header::thresholds` meets its contract.
+use borrow.Author.Needs.{needs}
+use Rattle.refusal.specs.Header.{thresholds}
+use Rattle.refusal.proofs.header.thresholds.Statement.{statement}
+use Rattle.refusal.proofs.header.thresholds.Tie as tie
+
+exceeded-requires : tie.Need-exceeded-requires
+exceeded-requires c κs = search needs
+
+refused-if-requires : tie.Need-refused-if-requires
+refused-if-requires c κs = search needs
+
+returns : tie.Need-returns
+unfolding thresholds
+returns c = cc
+
+pub thresholds-spec : {M : Type 1} → statement M
+thresholds-spec = tie.close (tie.spec exceeded-requires refused-if-requires returns)

@@ -1,0 +1,81 @@
+// The causes of refusal, each with its number in document 01.
+ghost use mathlib.Core.Path.{_≡_};
+ghost use Rattle.refusal.specs.Cause.{number, code, Judged, refused-if, _or-else_};
+
+pub enum Cause {
+    SheetForm,
+    StationCount,
+    Thresholds,
+    StationNumber,
+    Value,
+    MarkBeyond,
+    StationState,
+    Length,
+    ChainLeaves,
+    ChainRepeats,
+    RecordForm,
+    UnmarkedSender,
+    Duplicate,
+}
+
+// What judging gives: nothing against it, or a cause.
+pub enum Verdict {
+    Accepted,
+    Refused(Cause),
+}
+
+impl Cause {
+    // Document 01's number.
+    pub fn number(self) -> u8
+        ensures { λ r. ⌜ r ≡ number self ⌝ }
+    {
+        match self {
+            Cause::SheetForm => 1,
+            Cause::StationCount => 2,
+            Cause::Thresholds => 3,
+            Cause::StationNumber => 4,
+            Cause::Value => 5,
+            Cause::MarkBeyond => 6,
+            Cause::StationState => 7,
+            Cause::Length => 8,
+            Cause::ChainLeaves => 9,
+            Cause::ChainRepeats => 10,
+            Cause::RecordForm => 11,
+            Cause::UnmarkedSender => 12,
+            Cause::Duplicate => 13,
+        }
+    }
+}
+
+impl Verdict {
+    // Refused by the cause if the test holds.
+    pub fn refused_if(test: bool, cause: Cause) -> Verdict
+        ensures { λ r. ⌜ Judged (refused-if test cause) r ⌝ }
+    {
+        if test {
+            Verdict::Refused(cause)
+        } else {
+            Verdict::Accepted
+        }
+    }
+
+    // The cause's number, or 0 where there is none.
+    pub fn code(self) -> u8
+        ensures { λ r. ⌜ r ≡ code self ⌝ }
+    {
+        match self {
+            Verdict::Accepted => 0,
+            Verdict::Refused(c) => c.number(),
+        }
+    }
+
+    // This verdict's cause if it has one, otherwise the next verdict.
+    pub fn or_else(self, next: Verdict) -> Verdict
+        ensures { λ r. ⌜ Judged (self or-else next) r ⌝ }
+    {
+        match self {
+            Verdict::Accepted => next,
+            Verdict::Refused(c) => Verdict::Refused(c),
+        }
+    }
+}
