@@ -17,10 +17,10 @@ ghost use Rattle.exchange.specs.Tally.{Graded-is};
 use crate::tally;
 use crate::tally::Graded;
 use line::Line;
+use line::marks;
 use refusal::cause::Cause;
 use refusal::cause::Verdict;
 use refusal::header;
-use line::marks;
 
 // Whether it is an unmarked station's input and not 0 or 1.
 fn foreign(marked: bool, input: u8) -> bool

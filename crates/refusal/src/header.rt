@@ -3,9 +3,9 @@ ghost use mathlib.Core.Path.{_≡_};
 ghost use Rattle.line.specs.Marks.{mark-beyond};
 ghost use Rattle.refusal.specs.Cause.{Judged};
 ghost use Rattle.refusal.specs.Header.{outside, exceeded, station-count, thresholds, station-number, bit, marks-within, exact-length, line-verdict, header-verdict};
-use line::Line;
 use crate::cause::Cause;
 use crate::cause::Verdict;
+use line::Line;
 
 // Below low or above high.
 pub fn outside(low: u8, high: u8, x: u8) -> bool

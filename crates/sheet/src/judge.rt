@@ -12,10 +12,10 @@ ghost use Rattle.sheet.specs.Reading.{place-of};
 ghost use Rattle.sheet.specs.Loops.{Lined, Placed, unseen, looked, marked-seen, record-by};
 use crate::layout;
 use line::Line;
+use line::marks;
 use refusal::cause::Cause;
 use refusal::cause::Verdict;
 use refusal::header;
-use line::marks;
 
 // Cause 1.
 fn ill_formed(sheet: &[u8]) -> bool
