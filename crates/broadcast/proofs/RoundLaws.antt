@@ -11,7 +11,7 @@ use Rattle.line.specs.Line.{rounds}
 use Rattle.line.specs.Ballot.{silence}
 use Rattle.broadcast.specs.Exchange.{Row, flag-of}
 use Rattle.broadcast.specs.Broadcast.{Part, from-sender, first-of, second-of, from-king, part, speaks}
-use Rattle.broadcast.specs.Station.{Setup, State, running, done, opened, held, ballot, next, taken, advance, result, at, after}
+use Rattle.broadcast.specs.Station.{Setup, State, running, done, opened, held, told, ballot, next, taken, advance, result, at, after}
 use Rattle.broadcast.specs.Theorems.{DoneAfter, ValueWithoutEffect}
 use Rattle.line.proofs.BallotLaws.{read-sender-bit}
 use Rattle.broadcast.proofs.TallyLaws.{z-bound, y-bit, grade-bound, obey-bit}
@@ -36,19 +36,19 @@ module _ (r : ℕ) where
 -- the ballot in each part
 module _ (c : Setup) (s : State) where
   pub ballot-sender : part (s .round) ≡ from-sender → ballot c s ≡ (if eqb (c .own-from-0) (c .sender-from-0) then s .value else silence)
-  unfolding ballot speaks held
+  unfolding ballot told speaks held
   ballot-sender e = rw e
 
   pub ballot-first : {p : ℕ} → part (s .round) ≡ first-of p → ballot c s ≡ s .value
-  unfolding ballot speaks held
+  unfolding ballot told speaks held
   ballot-first e = rw e
 
   pub ballot-second : {p : ℕ} → part (s .round) ≡ second-of p → ballot c s ≡ s .z
-  unfolding ballot speaks held
+  unfolding ballot told speaks held
   ballot-second e = rw e
 
   pub ballot-king : {p : ℕ} → part (s .round) ≡ from-king p → ballot c s ≡ (if eqb (c .own-from-0) p then s .value else silence)
-  unfolding ballot speaks held
+  unfolding ballot told speaks held
   ballot-king e = rw e
 
   pub advance-by : {q : Part} (row : Row) → part (s .round) ≡ q → advance c s row ≡ taken c s row q

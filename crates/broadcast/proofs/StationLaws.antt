@@ -12,7 +12,7 @@ use Rattle.line.specs.Line.{rounds}
 use Rattle.line.specs.Ballot.{silence, read-sender}
 use Rattle.broadcast.specs.Exchange.{Setting, Row, sends, grade-of, first-row, z, second-row, y, grade}
 use Rattle.broadcast.specs.Broadcast.{phases, first-round, x-after, z-after, y-after, grade-after, value-of, final-grade, final-flag, Part, from-sender, first-of, second-of, from-king, part, speaks, spoken, said, sent}
-use Rattle.broadcast.specs.Station.{Setup, State, running, done, opened, held, ballot, next, taken, advance, result, at, after}
+use Rattle.broadcast.specs.Station.{Setup, State, running, done, opened, held, told, ballot, next, taken, advance, result, at, after}
 use Rattle.broadcast.proofs.RowLaws.{seconds-same, z-same, y-same}
 use Rattle.broadcast.proofs.PartLaws.{part-sender, part-first, part-second, part-king, next-first, first-is, by-parts}
 use Rattle.broadcast.proofs.RoundLaws.{running-in, done-in}
@@ -103,7 +103,7 @@ module _ (S : Setting) (sender-from-0 value : ℕ) (in-line : sender-from-0 < S 
   -- ---- what it tells
 
   tells-sender : (s : State) → (j ≡ sender-from-0 → v ≡ value) → Knows 1 s → ballot its-setup s ≡ said S sender-from-0 value 1 j
-  unfolding ballot said held spoken speaks Holds
+  unfolding ballot told said held spoken speaks Holds
   tells-sender s opens k =
       let e : s .value ≡ v = rw part-sender at (k .holds) in rw (k .in-round, part-sender) (go (eqb j sender-from-0) refl e)
     where
@@ -112,15 +112,15 @@ module _ (S : Setting) (sender-from-0 value : ℕ) (in-line : sender-from-0 < S 
       go false q e = refl
 
   tells-first : (p : ℕ) (s : State) → Knows (first-round p) s → ballot its-setup s ≡ said S sender-from-0 value (first-round p) j
-  unfolding ballot said held spoken speaks Holds
+  unfolding ballot told said held spoken speaks Holds
   tells-first p s k = rw (k .in-round, part-first p) (rw (part-first p) at (k .holds))
 
   tells-second : (p : ℕ) (s : State) → Knows (first-round p + 1) s → ballot its-setup s ≡ said S sender-from-0 value (first-round p + 1) j
-  unfolding ballot said held spoken speaks Holds
+  unfolding ballot told said held spoken speaks Holds
   tells-second p s k = let h : Holds (second-of p) s = rw (part-second p) at (k .holds) in rw (k .in-round, part-second p) (h .1)
 
   tells-king : (p : ℕ) (s : State) → Knows (first-round p + 2) s → ballot its-setup s ≡ said S sender-from-0 value (first-round p + 2) j
-  unfolding ballot said held spoken speaks Holds
+  unfolding ballot told said held spoken speaks Holds
   tells-king p s k = let h : Holds (from-king p) s = rw (part-king p) at (k .holds) in rw (k .in-round, part-king p, h .0)
 
   pub tells : (r : ℕ) → 1 ≤ r → (j ≡ sender-from-0 → v ≡ value) → (s : State) → Knows r s → ballot its-setup s ≡ said S sender-from-0 value r j

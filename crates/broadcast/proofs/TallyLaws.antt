@@ -2,7 +2,7 @@
 -- that two rows with the same bytes are taken alike (RowLaws). Assumes nothing.
 use Prim.Native.Nat.{ℕ, zero, suc, _+_, _-_, _≤_, _<_}
 use mathlib.Core.Path.{_≡_, refl, sym, ap, _∙_}
-use mathlib.Core.Bool.{Bool, true, false}
+use mathlib.Core.Bool.{Bool, true, false, not}
 use mathlib.Core.Logic.{_⊎_, inl, inr, _≢_}
 use native.Mathlib.Omega.{arith}
 use native.Mathlib.Nat.{eq-zero-or-pos}
@@ -10,9 +10,9 @@ use lib.Dec.{eqb, ltb}
 use borrow.Author.Tests.{eqb-true, lt-ltb, le-ltb, le-leb, lt-leb, eq-eqb, ne-eqb}
 use Rattle.line.specs.Count.{if_then_else_, count}
 use Rattle.line.specs.Ballot.{blank, read-first, read-second, read-king}
-use Rattle.line.proofs.CountLaws.{if-true, if-false, le-or-lt, count-zero, count-hit, count-miss, count-le, count-same, count-none, cover, mono, disjoint}
-use Rattle.line.proofs.BallotLaws.{read-first-keeps, read-second-keeps, read-second-bound, read-second-because, read-king-keeps, read-king-bit}
-use Rattle.broadcast.specs.Exchange.{Row, tally, firsts, seconds, z-of, y-of, grade-of, flag-of}
+use Rattle.line.proofs.CountLaws.{if-true, if-false, le-or-lt, count-zero, count-hit, count-miss, count-le, count-same, count-not, cover, mono, disjoint}
+use Rattle.line.proofs.BallotLaws.{read-first-keeps, read-first-default, read-first-bit, read-second-keeps, read-second-bound, read-second-because, read-king-keeps, read-king-bit}
+use Rattle.broadcast.specs.Exchange.{Row, tally, firsts, seconds, z-from, z-of, y-from, y-of, for-y, grade-of, flag-of}
 use Rattle.broadcast.specs.Broadcast.{obey}
 
 -- ---- zeros, ones and blanks
@@ -25,6 +25,27 @@ blanks-for-neither n v row h = count-same n _ _ (λ k _. go (row k) (le-or-lt (r
     go b (inl l) = rw (read-second-keeps b (omega arith))
     go b (inr l) =
         ne-eqb (read-second b) v (λ e. omega (arith, read-second-because b v h e)) ∙ sym (ne-eqb b v (λ e. omega arith))
+
+-- in the first round a one is a byte that is 1
+pub ones-are-bytes : (n : ℕ) (row : Row) → firsts n 1 row ≡ count n (λ i. eqb (row i) 1)
+unfolding firsts tally
+ones-are-bytes n row = count-same n _ _ (λ k _. go (row k) (le-or-lt (row k) 1))
+  where
+    go : (b : ℕ) → (b ≤ 1) ⊎ (1 < b) → eqb (read-first b) 1 ≡ eqb b 1
+    go b (inl l) = rw (read-first-keeps b l)
+    go b (inr l) = rw (read-first-default b l) (sym (ne-eqb b 1 (λ e. omega arith)))
+
+-- and every other ballot a zero
+pub zeros-and-ones : (n : ℕ) (row : Row) → firsts n 0 row + firsts n 1 row ≡ n
+unfolding firsts tally
+zeros-and-ones n row =
+    let e = count-same n (λ i. eqb (read-first (row i)) 0) (λ i. not (eqb (read-first (row i)) 1)) (λ i _. go _ (read-first-bit (row i))) in
+    omega (arith, e, count-not n (λ i. eqb (read-first (row i)) 1))
+  where
+    go : (b : ℕ) → b ≤ 1 → eqb b 0 ≡ not (eqb b 1)
+    go zero h = refl
+    go (suc zero) h = refl
+    go (suc (suc b)) h = absurd (omega arith)
 
 -- what is 0, 1 or 2 everywhere: the three counts make n
 three : (f : ℕ → ℕ) → ((k : ℕ) → f k ≤ 2) → (n : ℕ)
@@ -145,19 +166,50 @@ module _ (v : ℕ) (row : Row) where
 
 -- ---- each step in plain facts, as document 01 has it
 
--- step 2
+-- step 2, of a count
+pub z-from-means : (n T x c : ℕ) → (n - T ≤ c → z-from n T x c ≡ x) × (c < n - T → z-from n T x c ≡ blank)
+unfolding z-from
+z-from-means n T x c = (λ h. if-true x blank (le-leb (n - T) c h), λ h. if-false x blank (lt-leb (n - T) c h))
+
+-- of a row
 pub z-means : (n T x : ℕ) (row : Row)
     → (n - T ≤ firsts n x row → z-of n T x row ≡ x) × (firsts n x row < n - T → z-of n T x row ≡ blank)
 unfolding z-of
-z-means n T x row =
-    (λ h. if-true x blank (le-leb (n - T) (firsts n x row) h), λ h. if-false x blank (lt-leb (n - T) (firsts n x row) h))
+z-means n T x row = z-from-means n T x (firsts n x row)
 
--- step 4
+-- step 4, of two counts
+pub y-from-means : (a b : ℕ) → (b < a → y-from a b ≡ 0) × (a ≤ b → y-from a b ≡ 1)
+unfolding y-from
+y-from-means a b = (λ h. if-true 0 1 (lt-ltb b a h), λ h. if-false 0 1 (le-ltb b a h))
+
+pub y-from-bit : (a b : ℕ) → y-from a b ≤ 1
+y-from-bit a b = go (le-or-lt a b)
+  where
+    go : (a ≤ b) ⊎ (b < a) → y-from a b ≤ 1
+    go (inl h) = omega (arith, y-from-means a b .1 h)
+    go (inr h) = omega (arith, y-from-means a b .0 h)
+
+-- of a row
 pub y-means : (n : ℕ) (row : Row)
     → (seconds n 1 row < seconds n 0 row → y-of n row ≡ 0) × (seconds n 0 row ≤ seconds n 1 row → y-of n row ≡ 1)
 unfolding y-of
-y-means n row =
-    (λ h. if-true 0 1 (lt-ltb (seconds n 1 row) (seconds n 0 row) h), λ h. if-false 0 1 (le-ltb (seconds n 1 row) (seconds n 0 row) h))
+y-means n row = y-from-means (seconds n 0 row) (seconds n 1 row)
+
+-- the count for y
+pub for-y-is : (n : ℕ) (row : Row) → for-y (seconds n 0 row) (seconds n 1 row) ≡ seconds n (y-of n row) row
+unfolding for-y y-of
+for-y-is n row = go (y-from a b) (y-from-bit a b)
+  where
+    a : ℕ
+    a = seconds n 0 row
+
+    b : ℕ
+    b = seconds n 1 row
+
+    go : (y : ℕ) → y ≤ 1 → (if eqb y 0 then a else b) ≡ seconds n y row
+    go zero h = refl
+    go (suc zero) h = refl
+    go (suc (suc y)) h = absurd (omega arith)
 
 -- step 5
 pub grade-means : (n t T c : ℕ)
@@ -205,11 +257,8 @@ z-bound n T x row h = go (le-or-lt (n - T) (firsts n x row))
 -- ---- y is 0 or 1, and the value with the larger count
 
 pub y-bit : (n : ℕ) (row : Row) → y-of n row ≤ 1
-y-bit n row = go (le-or-lt (seconds n 0 row) (seconds n 1 row))
-  where
-    go : (seconds n 0 row ≤ seconds n 1 row) ⊎ (seconds n 1 row < seconds n 0 row) → y-of n row ≤ 1
-    go (inl k) = omega (arith, y-means n row .1 k)
-    go (inr k) = omega (arith, y-means n row .0 k)
+unfolding y-of
+y-bit n row = y-from-bit (seconds n 0 row) (seconds n 1 row)
 
 pub y-majority : (n : ℕ) (row : Row) (v w : ℕ) → v + w ≡ 1 → seconds n w row < seconds n v row → y-of n row ≡ v
 y-majority n row zero zero s h = absurd (omega arith)

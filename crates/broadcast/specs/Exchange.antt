@@ -19,17 +19,27 @@ tally read n v row = count n (λ i. eqb (read (row i)) v)
 unfoldable pub firsts : ℕ → ℕ → Row → ℕ
 firsts n v row = tally read-first n v row
 
--- step 2 (001: 3): "If at least n−T ballots, its own included, equal its x, then z = x, otherwise z is blank."
+-- step 2 (001: 3), of c, how many ballots equal x: "If at least n−T ballots, its own included, equal its x, then z = x, otherwise z is blank."
+unfoldable pub z-from : ℕ → ℕ → ℕ → ℕ → ℕ
+z-from n T x c = if leb (n - T) c then x else blank
+
 unfoldable pub z-of : ℕ → ℕ → ℕ → Row → ℕ
-z-of n T x row = if leb (n - T) (firsts n x row) then x else blank
+z-of n T x row = z-from n T x (firsts n x row)
 
 -- steps 3 and 4 (001: 5): a, the zeros of the second round (v = 0), b, the ones (v = 1), and the blanks (v = blank)
 unfoldable pub seconds : ℕ → ℕ → Row → ℕ
 seconds n v row = tally read-second n v row
 
 -- step 4 (001: 6, where equal counts give 0): "y = 0 if a exceeds b, otherwise y = 1."
+unfoldable pub y-from : ℕ → ℕ → ℕ
+y-from a b = if ltb b a then 0 else 1
+
 unfoldable pub y-of : ℕ → Row → ℕ
-y-of n row = if ltb (seconds n 1 row) (seconds n 0 row) then 0 else 1
+y-of n row = y-from (seconds n 0 row) (seconds n 1 row)
+
+-- "the count for y", of a and b
+unfoldable pub for-y : ℕ → ℕ → ℕ
+for-y a b = if eqb (y-from a b) 0 then a else b
 
 -- step 5 (001: 7 to 9): "The grade is 2 if the count for y is at least n−t, else 1 if it is at least n−T, else 0."
 unfoldable pub grade-of : ℕ → ℕ → ℕ → ℕ → ℕ

@@ -28,15 +28,19 @@ pub record State : Type 0 where
 unfoldable pub opened : ℕ → State
 opened v = record { round = 1; value = v; z = blank; grade = 0 }
 
+-- what a station that speaks tells in each part: its value, in the second round of an exchange its z
+unfoldable pub held : ℕ → ℕ → Part → ℕ
+held value z from-sender = value
+held value z (first-of p) = value
+held value z (second-of p) = z
+held value z (from-king p) = value
+
 -- "It tells its ballot for the current round, 255 if it doesn't speak"
-unfoldable pub held : State → Part → ℕ
-held s from-sender = s .value
-held s (first-of p) = s .value
-held s (second-of p) = s .z
-held s (from-king p) = s .value
+unfoldable pub told : ℕ → ℕ → ℕ → ℕ → Part → ℕ
+told sender-from-0 own-from-0 value z p = if speaks sender-from-0 p own-from-0 then held value z p else silence
 
 unfoldable pub ballot : Setup → State → ℕ
-ballot c s = if speaks (c .sender-from-0) (part (s .round)) (c .own-from-0) then held s (part (s .round)) else silence
+ballot c s = told (c .sender-from-0) (c .own-from-0) (s .value) (s .z) (part (s .round))
 
 -- "and takes a row of n received bytes to pass to the next round"
 unfoldable pub next : State → ℕ → ℕ → ℕ → State

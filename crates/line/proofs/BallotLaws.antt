@@ -49,6 +49,14 @@ pub read-first-keeps : (b : ℕ) → b ≤ 1 → read-first b ≡ b
 unfolding read-first
 read-first-keeps b h = bit-or-low 0 b h
 
+pub read-first-default : (b : ℕ) → 1 < b → read-first b ≡ 0
+unfolding read-first
+read-first-default b h = bit-or-high 0 b h
+
+pub read-first-bit : (b : ℕ) → read-first b ≤ 1
+unfolding read-first
+read-first-bit b = bit-or-bound 0 1 b (omega arith) (omega arith)
+
 pub read-second-bound : (b : ℕ) → read-second b ≤ 2
 unfolding read-second
 read-second-bound b = bit-or-bound blank 2 b (omega arith) (omega arith)

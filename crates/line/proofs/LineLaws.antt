@@ -1,14 +1,16 @@
 -- Laws of the line's lengths and places. Assumes nothing.
 use Prim.Native.Nat.{ℕ, _+_, _-_, _*_, _/_, _%_, _^_, _≤_, _<_}
-use mathlib.Core.Path.{_≡_, refl}
+use mathlib.Core.Path.{_≡_, refl, sym}
+use mathlib.Core.Bool.{Bool, true, false, _&&_, true≢false}
 use native.Mathlib.Omega.{arith}
 use native.Mathlib.Nat.{add-assoc, zero-add, zero-mul, add-mul, suc-mul, mul-le-mul, lt-of-le-of-lt}
 use native.Mathlib.Numerals.{add-one}
-use lib.Dec.{T, ltb, lit<}
+use lib.Dec.{T, leb, ltb, lit<}
+use borrow.Author.Tests.{leb-true, leb-false, le-leb, lt-leb}
 use mir.Syntax.{w64}
 use mir.Val.{Fits as FitsWord}
 use lib.Arith.{digits-lt, digits-div, digits-mod}
-use Rattle.line.specs.Line.{Fits, rounds, table-length, place, largest-table}
+use Rattle.line.specs.Line.{Fits, rounds, table-length, place, has-round, largest-table}
 use Rattle.line.specs.Theorems.{PlaceSteps}
 
 -- ---- products
@@ -76,3 +78,39 @@ module _ (n r i j : ℕ) (hr : 1 ≤ r) (hi : i < n) (hj : j < n) where
   pub place-to : place n r i j % n ≡ j
   unfolding place
   place-to = digits-mod ((r - 1) * n + i) hj
+
+-- ---- whether a round has its bytes
+
+module _ (n start size : ℕ) where
+  pub round-there : n ≤ 32 → start + n * n ≤ size → has-round n start size ≡ true
+  unfolding has-round
+  round-there h k = rw (le-leb n 32 h, le-leb (start + n * n) size k)
+
+  pub round-large : 32 < n → has-round n start size ≡ false
+  unfolding has-round
+  round-large h = rw (lt-leb n 32 h)
+
+  pub round-short : size < start + n * n → has-round n start size ≡ false
+  unfolding has-round
+  round-short h = go (leb n 32) (lt-leb (start + n * n) size h)
+    where
+      go : (b : Bool) → leb (start + n * n) size ≡ false → (b && leb (start + n * n) size) ≡ false
+      go true e = e
+      go false e = refl
+
+  -- as code tells it
+  pub round-left : n ≤ 32 → start ≤ size → leb (n * n) (size - start) ≡ has-round n start size
+  round-left h k = go (leb (n * n) (size - start)) refl
+    where
+      go : (b : Bool) → leb (n * n) (size - start) ≡ b → b ≡ has-round n start size
+      go true e = sym (round-there h (omega (arith, leb-true (n * n) (size - start) e)))
+      go false e = sym (round-short (omega (arith, leb-false (n * n) (size - start) e)))
+
+  pub round-means : has-round n start size ≡ true → (n ≤ 32) × (start + n * n ≤ size)
+  unfolding has-round
+  round-means = go (leb n 32) (leb (start + n * n) size) refl refl
+    where
+      go : (a b : Bool) → leb n 32 ≡ a → leb (start + n * n) size ≡ b → (a && b) ≡ true → (n ≤ 32) × (start + n * n ≤ size)
+      go true true p q e = (leb-true n 32 p, leb-true (start + n * n) size q)
+      go true false p q e = absurd (true≢false (sym e))
+      go false b p q e = absurd (true≢false (sym e))

@@ -4,11 +4,11 @@ use mathlib.Core.Logic.{⊎-elim, _≢_}
 use mathlib.Core.Path.{_≡_, refl, sym, _∙_}
 use mathlib.Core.List.{List}
 use native.Mathlib.Numerals.{add-one}
-use native.Mathlib.Nat.{eq-or-lt-of-le, le-of-suc-le-suc}
+use native.Mathlib.Nat.{add-zero, add-suc, eq-or-lt-of-le, le-of-suc-le-suc}
 use native.Mathlib.Omega.{arith}
 use lib.ListN.{length, getD, set, replicate, length-set, length-replicate, getD-replicate}
 use lib.Seq.{getD-set-same, getD-set-other, ext-getD}
-use Rattle.line.specs.Writing.{over}
+use Rattle.line.specs.Writing.{over, Each}
 
 module _ (l : List ℕ) (a : ℕ) (F : ℕ → ℕ) where
   pub over-none : l ≡ over l a 0 F
@@ -48,6 +48,15 @@ module _ (l : List ℕ) (a : ℕ) (F : ℕ → ℕ) where
   over-same G zero h = refl
   over-same G (suc m) h = rw (over-same G m (λ j p. h j (omega arith)), h m (omega arith))
 
+-- writing goes on where another writing ended
+pub over-on : (l : List ℕ) (a m : ℕ) (F G : ℕ → ℕ) (k : ℕ) → ((j : ℕ) → j < k → G j ≡ F (m + j))
+    → over (over l a m F) (a + m) k G ≡ over l a (m + k) F
+unfolding over
+over-on l a m F G zero h = rw add-zero
+over-on l a m F G (suc k) h =
+    let e : a + m + k ≡ a + (m + k) = omega arith in
+    rw (add-suc, over-on l a m F G k (λ j p. h j (omega arith)), h k (omega arith), e)
+
 -- a turn of a loop that writes from the front
 pub front-turn : (l : List ℕ) (F : ℕ → ℕ) (m : ℕ) (l′ : List ℕ) (v : ℕ) → l′ ≡ over l 0 m F → v ≡ F m → set l′ m v ≡ over l 0 (m + 1) F
 front-turn l F m l′ v e q = let z : 0 + m ≡ m = omega arith in rw z at (over-turn l 0 F m l′ v e q)
@@ -63,3 +72,23 @@ over-all l v =
     (λ k h.
     let b : k < length l = rw over-length at h in
     front-at l (λ k. v) (length l) k b (omega arith) ∙ sym (getD-replicate (length l) k v 0 b))
+
+-- ---- an array that a loop fills from the front
+
+pub each-none : (l : List ℕ) (F : ℕ → ℕ) → Each 0 l F
+unfolding Each
+each-none l F j h = absurd (omega arith)
+
+-- one byte more
+pub each-turn : (l : List ℕ) (F : ℕ → ℕ) (m v : ℕ) → m < length l → Each m l F → v ≡ F m → Each (m + 1) (set l m v) F
+unfolding Each
+each-turn l F m v h below here i k =
+    ⊎-elim
+    (λ (q : i ≡ m). rw (q, getD-set-same) here)
+    (λ (e : i < m). let ne : i ≢ m = λ q. omega arith in rw getD-set-other (below i e))
+    (eq-or-lt-of-le (let h′ : i ≤ m = omega arith in h′))
+
+-- the first of more
+pub each-fewer : (m n : ℕ) (l : List ℕ) (F : ℕ → ℕ) → n ≤ m → Each m l F → Each n l F
+unfolding Each
+each-fewer m n l F h each j k = each j (omega arith)

@@ -3,6 +3,8 @@
 -- document's numbers, from 1: a sender, an own number, a record's from and to. Where one of these is counted from 0 its name says so. Rounds are
 -- numbered from 1, as in the document.
 use Prim.Native.Nat.{ℕ, _+_, _-_, _*_, _≤_, _<_}
+use mathlib.Core.Bool.{Bool, _&&_}
+use lib.Dec.{leb}
 
 -- "n: stations, 1 to 32."
 abbrev pub most-stations : ℕ
@@ -28,6 +30,10 @@ table-length n t = rounds t * n * n
 -- "the byte for round r, from i, to j stands at ((r−1)·n + (i−1))·n + (j−1)": i and j are counted from 0 here
 unfoldable pub place : ℕ → ℕ → ℕ → ℕ → ℕ
 place n r i j = ((r - 1) * n + i) * n + j
+
+-- whether a round of n stations has its n·n bytes from `start` on in a buffer of this length, and n is at most 32
+unfoldable pub has-round : ℕ → ℕ → ℕ → Bool
+has-round n start size = leb n most-stations && leb (start + n * n) size
 
 -- "The largest has 36,864 bytes."
 abbrev pub largest-table : ℕ

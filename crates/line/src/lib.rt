@@ -1,6 +1,6 @@
 // The line of stations: its type with what follows from n, t and T, the readings of a ballot byte, and marks.
 ghost use mathlib.Core.Path.{_≡_};
-ghost use Rattle.line.specs.Line.{most-stations, rounds, table-length, largest-table, exchange-length, outcomes-length};
+ghost use Rattle.line.specs.Line.{most-stations, rounds, table-length, has-round, largest-table, exchange-length, outcomes-length};
 ghost use Rattle.line.specs.Ballot.{blank, silence};
 
 pub mod ballot;
@@ -48,6 +48,20 @@ impl Line {
     {
         let n = self.n as usize;
         2 * n * n
+    }
+
+    // Whether the bytes of one round, from `start` on, are within a buffer of this length.
+    pub fn has_round(self, start: usize, len: usize) -> bool
+        ensures { λ r. ⌜ r ≡ has-round (self .n) start len ⌝ }
+    {
+        let n = self.n as usize;
+        if 32 < n {
+            return false;
+        }
+        if len < start {
+            return false;
+        }
+        n * n <= len - start
     }
 
     // The bytes of all outcomes.

@@ -1,0 +1,79 @@
+// What all receivers get in a round: a sender's bytes to all stand side by side in the log, those to one receiver are a column, and all columns are counted at once.
+ghost use mathlib.Core.Path.{_≡_};
+ghost use Prim.Native.Nat.{_+_, _*_, _≤_, _<_};
+ghost use lib.ListN.{length};
+ghost use Rattle.line.specs.Writing.{Each};
+ghost use Rattle.column.specs.Column.{AtMost, byte-to, hit, more, counted, count-of};
+use line::Line;
+
+// The first n bytes of one sender to all.
+fn heard(bytes: &[u8], at: usize, n: usize) -> [u8; 32]
+    requires { ⌜ (n ≤ 32) × (at + n ≤ length (now bytes)) ⌝ }
+    ensures { λ r. ⌜ Each n r (byte-to (now (bytes .entry)) at) ⌝ }
+{
+    let mut row = [0u8; 32];
+    let mut j: usize = 0;
+    while j < n {
+        row[j] = bytes[at + j];
+        j += 1;
+    }
+    row
+}
+
+// A block of 32 bytes that starts with these, where there are so many: those beyond n are of no receiver.
+fn block(bytes: &[u8], at: usize, n: usize) -> [u8; 32]
+    requires { ⌜ (n ≤ 32) × (at + n ≤ length (now bytes)) ⌝ }
+    ensures { λ r. ⌜ Each n r (byte-to (now (bytes .entry)) at) ⌝ }
+{
+    if 32 <= bytes.len() - at {
+        heard(bytes, at, 32)
+    } else {
+        heard(bytes, at, n)
+    }
+}
+
+// 1 where the byte is v.
+fn hit(b: u8, v: u8) -> u8
+    ensures { λ r. ⌜ r ≡ hit b v ⌝ }
+{
+    if b == v { 1 } else { 0 }
+}
+
+// One more at each place where the byte is v.
+fn add_row(counts: &mut [u8; 32], row: &[u8; 32], v: u8)
+    requires { ⌜ (AtMost 254 32 (now counts)) × (length (now counts) ≡ 32) ⌝ }
+    ensures { λ _. ⌜ (length (now (counts .exit)) ≡ 32) × Each 32 (now (counts .exit)) (more (now (counts .entry)) (now (row .entry)) v) ⌝ }
+{
+    let mut j: usize = 0;
+    while j < 32 {
+        counts[j] += hit(row[j], v);
+        j += 1;
+    }
+}
+
+// How many of a round's bytes to each receiver are v.
+fn count_all(bytes: &[u8], start: usize, n: usize, v: u8) -> [u8; 32]
+    requires { ⌜ (n ≤ 32) × (start + n * n ≤ length (now bytes)) ⌝ }
+    ensures { λ r. ⌜ Each n r (counted (now (bytes .entry)) start n v n) ⌝ }
+{
+    let mut counts = [0u8; 32];
+    let mut i: usize = 0;
+    let mut at = start;
+    while i < n {
+        let row = block(bytes, at, n);
+        add_row(&mut counts, &row, v);
+        at += n;
+        i += 1;
+    }
+    counts
+}
+
+// How many bytes to each receiver are v, in the round that starts at `start`; 0 where the bytes have no such round. Places beyond n are of no receiver, and open.
+pub fn count(line: Line, bytes: &[u8], start: usize, v: u8) -> [u8; 32]
+    ensures { λ r. ⌜ Each (line .n) r (count-of (line .n) (now (bytes .entry)) start v) ⌝ }
+{
+    if line.has_round(start, bytes.len()) {
+        return count_all(bytes, start, line.n as usize, v);
+    }
+    [0u8; 32]
+}

@@ -1,0 +1,70 @@
+// A round's ballots, written to the log: sender by sender, a byte for each receiver.
+ghost use mathlib.Core.Path.{_≡_};
+ghost use Prim.Native.Nat.{_+_, _*_, _≤_, _<_};
+ghost use lib.ListN.{length};
+ghost use Rattle.line.specs.Writing.{over};
+ghost use Rattle.post.specs.Posted.{same, from-table, either, ballot-at, posted};
+use line::Line;
+use line::marks;
+
+// A good station's byte, the same to all n.
+fn post_same(log: &mut [u8], at: usize, n: usize, b: u8)
+    requires { ⌜ at + n ≤ length (now log) ⌝ }
+    ensures { λ _. ⌜ now (log .exit) ≡ over (now (log .entry)) at n (same b) ⌝ }
+{
+    let mut j: usize = 0;
+    while j < n {
+        log[at + j] = b;
+        j += 1;
+    }
+}
+
+// A bad station's bytes are the table's, unread.
+fn post_table(log: &mut [u8], table: &[u8], at: usize, n: usize)
+    requires { ⌜ (at + n ≤ length (now log)) × (at + n ≤ length (now table)) ⌝ }
+    ensures { λ _. ⌜ now (log .exit) ≡ over (now (log .entry)) at n (from-table (now (table .entry)) at) ⌝ }
+{
+    let mut j: usize = 0;
+    while j < n {
+        log[at + j] = table[at + j];
+        j += 1;
+    }
+}
+
+// One sender's ballots.
+fn post(log: &mut [u8], table: &[u8], bad: bool, b: u8, at: usize, n: usize)
+    requires { ⌜ (at + n ≤ length (now log)) × (at + n ≤ length (now table)) ⌝ }
+    ensures { λ _. ⌜ now (log .exit) ≡ over (now (log .entry)) at n (either bad (now (table .entry)) at b) ⌝ }
+{
+    if bad {
+        post_table(log, table, at, n);
+    } else {
+        post_same(log, at, n, b);
+    }
+}
+
+// All senders' ballots of the round whose bytes start at `start`.
+fn post_all(said: &[u8; 32], log: &mut [u8], table: &[u8], marks: u32, start: usize, n: usize)
+    requires { ⌜ (n ≤ 32) × (start + n * n ≤ length (now log)) × (start + n * n ≤ length (now table)) ⌝ }
+    ensures { λ _. ⌜ now (log .exit) ≡ over (now (log .entry)) start (n * n) (ballot-at (now (said .entry)) (now (table .entry)) marks start n) ⌝ }
+{
+    let mut i: usize = 0;
+    let mut at = start;
+    while i < n {
+        let bad = marks::is_marked(marks, i as u8);
+        post(log, table, bad, said[i], at, n);
+        at += n;
+        i += 1;
+    }
+}
+
+// The round whose bytes start at `start`, where the steps make station i send the byte i of `said`. Nothing is written where it has no room in the log or the table.
+pub fn round(line: Line, marks: u32, said: &[u8; 32], table: &[u8], log: &mut [u8], start: usize)
+    ensures { λ _. ⌜ now (log .exit) ≡ posted (line .n) marks (now (said .entry)) (now (table .entry)) (now (log .entry)) start ⌝ }
+{
+    if line.has_round(start, log.len()) {
+        if line.has_round(start, table.len()) {
+            post_all(said, log, table, marks, start, line.n as usize);
+        }
+    }
+}
