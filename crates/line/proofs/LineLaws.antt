@@ -3,7 +3,7 @@ use Prim.Native.Nat.{ℕ, _+_, _-_, _*_, _/_, _%_, _^_, _≤_, _<_}
 use mathlib.Core.Path.{_≡_, refl, sym}
 use mathlib.Core.Bool.{Bool, true, false, _&&_, true≢false}
 use native.Mathlib.Omega.{arith}
-use native.Mathlib.Nat.{add-assoc, zero-add, zero-mul, add-mul, suc-mul, mul-le-mul, lt-of-le-of-lt}
+use native.Mathlib.Nat.{add-assoc, zero-add, zero-mul, add-mul, suc-mul, mul-le-mul, mul-le-mul-right, lt-of-le-of-lt}
 use native.Mathlib.Numerals.{add-one}
 use lib.Dec.{T, leb, ltb, lit<}
 use borrow.Author.Tests.{leb-true, leb-false, le-leb, lt-leb}
@@ -22,6 +22,10 @@ product-fits h k t = record { fits = lt-of-le-of-lt (mul-le-mul h k) (lit< t) }
 -- a row more, of n bytes
 pub next-row : (i n : ℕ) → (i + 1) * n ≡ i * n + n
 next-row i n = rw (add-one, suc-mul)
+
+-- row i of m ends within them
+pub row-within : (i n m : ℕ) → i < m → i * n + n ≤ m * n
+row-within i n m h = rw suc-mul at (mul-le-mul-right n h)
 
 -- ---- the largest table
 

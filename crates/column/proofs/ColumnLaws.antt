@@ -1,0 +1,96 @@
+-- Laws of counts by columns. Assumes nothing.
+use Prim.Native.Nat.{ℕ, zero, suc, _+_, _*_, _≤_, _<_}
+use mathlib.Core.Logic.{_≢_}
+use mathlib.Core.Path.{_≡_, refl, sym, _∙_}
+use mathlib.Core.Bool.{Bool, true, false}
+use mathlib.Core.List.{List}
+use native.Mathlib.Omega.{arith}
+use lib.Dec.{eqb}
+use lib.ListN.{length, getD, set, replicate, getD-replicate}
+use lib.Seq.{getD-set-other}
+use Rattle.line.specs.Count.{if_then_else_, count}
+use Rattle.line.specs.Line.{has-round}
+use Rattle.line.specs.Writing.{Each}
+use Rattle.line.proofs.CountLaws.{if-true, if-false, count-zero, count-le, count-hit, count-miss}
+use Rattle.column.specs.Column.{column, counted, count-of, byte-to, hit, more, AtMost, Rest}
+
+pub rest-all : (l : List ℕ) → Rest 0 l l
+unfolding Rest
+rest-all l k h = refl
+
+pub rest-turn : (l l₀ : List ℕ) (m v : ℕ) → Rest m l l₀ → Rest (m + 1) (set l m v) l₀
+unfolding Rest
+rest-turn l l₀ m v rest k h = let ne : k ≢ m = λ q. omega arith in rw getD-set-other (rest k (omega arith))
+
+pub hit-le : (b v : ℕ) → hit b v ≤ 1
+unfolding hit
+hit-le b v = go (eqb b v)
+  where
+    go : (c : Bool) → (if c then 1 else 0) ≤ 1
+    go true = omega arith
+    go false = omega arith
+
+-- ---- counts
+
+module _ (bytes : List ℕ) (start n v : ℕ) where
+  pub counted-none : n ≤ 32 → Each n (replicate 32 0) (counted bytes start n v 0)
+  unfolding Each counted
+  counted-none h j l = getD-replicate 32 j 0 0 (omega arith) ∙ sym (count-zero _)
+
+  pub counted-le : (m j : ℕ) → counted bytes start n v m j ≤ m
+  unfolding counted
+  counted-le m j = count-le m _
+
+  pub counted-most : (b m : ℕ) (l : List ℕ) → m ≤ b → Each n l (counted bytes start n v m) → AtMost b n l
+  unfolding Each AtMost
+  counted-most b m l h each j k = omega (arith, each j k, counted-le m j)
+
+  -- one sender more
+  counted-more : (m j : ℕ) → counted bytes start n v m j + hit (byte-to bytes (start + m * n) j) v ≡ counted bytes start n v (m + 1) j
+  unfolding counted hit byte-to column
+  counted-more m j = go (eqb (getD bytes (start + m * n + j) 0) v) refl
+    where
+      p : ℕ → Bool
+      p i = eqb (getD bytes (start + i * n + j) 0) v
+
+      go : (c : Bool) → eqb (getD bytes (start + m * n + j) 0) v ≡ c → count m p + (if c then 1 else 0) ≡ count (m + 1) p
+      go true e = sym (count-hit m p e)
+      go false e = omega (arith, count-miss m p e)
+
+  pub counted-turn : n ≤ 32 → (m : ℕ) (l l′ row : List ℕ) → Each n l (counted bytes start n v m) → Each n row (byte-to bytes (start + m * n))
+      → Each 32 l′ (more l row v) → Each n l′ (counted bytes start n v (m + 1))
+  unfolding Each more
+  counted-turn h m l l′ row before is now j k =
+      now j (omega arith) ∙ rw (before j k, is j k) (counted-more m j)
+
+-- no count is above the number of rows
+pub most-none : AtMost 0 32 (replicate 32 0)
+unfolding AtMost
+most-none j h = omega (arith, getD-replicate {A = ℕ} 32 j 0 0 h)
+
+pub most-turn : (m v : ℕ) (l l′ row : List ℕ) → AtMost m 32 l → Each 32 l′ (more l row v) → AtMost (m + 1) 32 l′
+unfolding AtMost Each more
+most-turn m v l l′ row most now j h = omega (arith, most j h, now j h, hit-le (getD row j 0) v)
+
+pub most-weak : (a b m : ℕ) (l : List ℕ) → a ≤ b → AtMost a m l → AtMost b m l
+unfolding AtMost
+most-weak a b m l h most j k = omega (arith, most j k)
+
+-- ---- with and without room
+
+pub count-there : (n : ℕ) (bytes : List ℕ) (start v : ℕ) → has-round n start (length bytes) ≡ true
+    → (j : ℕ) → count-of n bytes start v j ≡ counted bytes start n v n j
+unfolding count-of
+count-there n bytes start v h j = if-true _ _ h
+
+-- an array of zeros is 0 everywhere, and past its end
+zeros : (m j : ℕ) → getD {A = ℕ} (replicate m 0) j 0 ≡ 0
+zeros zero zero = refl
+zeros zero (suc j) = refl
+zeros (suc m) zero = refl
+zeros (suc m) (suc j) = zeros m j
+
+pub count-not : (n : ℕ) (bytes : List ℕ) (start v : ℕ) → has-round n start (length bytes) ≡ false
+    → Each n (replicate 32 0) (count-of n bytes start v)
+unfolding count-of Each
+count-not n bytes start v h j k = rw h (zeros 32 j)

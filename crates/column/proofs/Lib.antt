@@ -1,0 +1,2 @@
+-- ColumnLaws has the laws of counts; in a folder for each function is the proof that it meets its contract.
+pub mod ColumnLaws

@@ -1,0 +1,2 @@
+-- What crate column counts.
+pub mod Column

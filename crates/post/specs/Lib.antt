@@ -1,0 +1,2 @@
+-- What crate post writes.
+pub mod Posted
