@@ -10,7 +10,7 @@ use lib.Dec.{eqb, ltb}
 use borrow.Author.Tests.{eqb-true, lt-ltb, le-ltb, le-leb, lt-leb, eq-eqb, ne-eqb}
 use Rattle.line.specs.Count.{if_then_else_, count}
 use Rattle.line.specs.Ballot.{blank, read-first, read-second, read-king}
-use Rattle.line.proofs.CountLaws.{if-true, if-false, le-or-lt, count-zero, count-hit, count-miss, count-le, count-same, count-not, cover, mono, disjoint}
+use Rattle.line.proofs.CountLaws.{if-true, if-false, le-or-lt, count-zero, count-hit, count-miss, count-le, count-same, count-not, count-none, cover, mono, disjoint}
 use Rattle.line.proofs.BallotLaws.{read-first-keeps, read-first-default, read-first-bit, read-second-keeps, read-second-bound, read-second-because, read-king-keeps, read-king-bit}
 use Rattle.broadcast.specs.Exchange.{Row, tally, firsts, seconds, z-from, z-of, y-from, y-of, for-y, grade-of, flag-of}
 use Rattle.broadcast.specs.Broadcast.{obey}
@@ -46,6 +46,12 @@ zeros-and-ones n row =
     go zero h = refl
     go (suc zero) h = refl
     go (suc (suc b)) h = absurd (omega arith)
+
+-- and none anything else
+pub firsts-else : (n v : ℕ) (row : Row) → 1 < v → firsts n v row ≡ 0
+unfolding firsts tally
+firsts-else n v row h =
+    count-same n _ (λ _. false) (λ k _. ne-eqb (read-first (row k)) v (λ e. omega (arith, read-first-bit (row k)))) ∙ count-none n
 
 -- what is 0, 1 or 2 everywhere: the three counts make n
 three : (f : ℕ → ℕ) → ((k : ℕ) → f k ≤ 2) → (n : ℕ)

@@ -1,9 +1,10 @@
 -- Laws of a round's ballots in the log. Assumes nothing.
-use Prim.Native.Nat.{ℕ, _+_, _*_, _/_, _≤_, _<_}
-use mathlib.Core.Path.{_≡_, refl, sym, _∙_}
+use Prim.Native.Nat.{ℕ, zero, suc, _+_, _*_, _/_, _≤_, _<_}
+use mathlib.Core.Path.{_≡_, refl, sym, ap, _∙_}
 use mathlib.Core.Bool.{Bool, true, false, _&&_}
 use mathlib.Core.List.{List}
 use native.Mathlib.Omega.{arith}
+use native.Mathlib.Nat.{zero-mul, div-lt-iff-lt-mul}
 use lib.Arith.{digits-div, digits-lt}
 use lib.ListN.{length, getD}
 use Rattle.line.specs.Count.{if_then_else_}
@@ -11,7 +12,7 @@ use Rattle.line.specs.Line.{has-round}
 use Rattle.line.specs.Marks.{marked}
 use Rattle.line.specs.Writing.{over}
 use Rattle.line.proofs.LineLaws.{next-row, row-within, round-means}
-use Rattle.line.proofs.WritingLaws.{over-on, over-at, over-before, over-length}
+use Rattle.line.proofs.WritingLaws.{over-on, over-same, over-at, over-before, over-length}
 use Rattle.post.specs.Posted.{ballot-at, posted, same, from-table, either}
 
 -- ---- a bad station's bytes and a good station's
@@ -82,3 +83,15 @@ module _ (said table : List ℕ) (marks start n : ℕ) where
           let e : start + (i * n + j) ≡ start + i * n + j = omega arith in
           let k : i * n + j < n * n = digits-lt hi hj in
           rw posted-is ((rw e at (over-at log start (ballot-at said table marks start n) (n * n) (i * n + j) k (round-means n start (length log) a .1))) ∙ sym (ballot-from i j hj))
+
+-- who says the same posts the same
+pub posted-as : (n marks : ℕ) (said said′ table log : List ℕ) (start : ℕ) → ((i : ℕ) → i < n → getD said i 0 ≡ getD said′ i 0)
+    → posted n marks said table log start ≡ posted n marks said′ table log start
+unfolding posted ballot-at
+posted-as n marks said said′ table log start h =
+    ap (λ (l : List ℕ). if has-round n start (length log) && has-round n start (length table) then l else log)
+    (over-same log start _ _ (n * n) (λ k b. ap (λ (q : ℕ). if marked marks (k / n) then getD table (start + k) 0 else q) (h (k / n) (div-lt-iff-lt-mul (positive n k b) .1 b))))
+  where
+    positive : (n k : ℕ) → k < n * n → 0 < n
+    positive zero k b = absurd (omega (arith, zero-mul zero))
+    positive (suc n) k b = omega arith

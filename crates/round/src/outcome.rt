@@ -1,9 +1,17 @@
 // The outcomes of all stations: three bytes each.
+ghost use mathlib.Core.Path.{_≡_};
+ghost use lib.Dec.{leb};
+ghost use lib.ListN.{length};
+ghost use Rattle.line.specs.Count.{if_then_else_};
+ghost use Rattle.line.specs.Writing.{over};
+ghost use Rattle.round.specs.Outcome.{pick, outcome-byte, outcome-at, reach};
 use crate::Stations;
 use line::marks;
 
 // Byte d of a good station's outcome.
-fn pick(value: u8, grade: u8, d: usize) -> u8 {
+fn pick(value: u8, grade: u8, d: usize) -> u8
+    ensures { λ r. ⌜ r ≡ pick value grade d ⌝ }
+{
     if d == 0 {
         return value;
     }
@@ -11,20 +19,31 @@ fn pick(value: u8, grade: u8, d: usize) -> u8 {
 }
 
 // Byte d of a station's outcome, 255 at a bad station.
-fn outcome_byte(bad: bool, value: u8, grade: u8, d: usize) -> u8 {
+fn outcome_byte(bad: bool, value: u8, grade: u8, d: usize) -> u8
+    ensures { λ r. ⌜ r ≡ outcome-byte bad value grade d ⌝ }
+{
     if bad { 255 } else { pick(value, grade, d) }
 }
 
-// Three bytes a station, as far as the buffer goes and at most those of 32 stations.
-pub fn write(s: Stations, marks: u32, outcomes: &mut [u8]) {
+// How many bytes are written: those of 32 stations at most.
+fn reach(len: usize) -> usize
+    ensures { λ r. ⌜ r ≡ reach len ⌝ }
+{
+    if len <= 96 { len } else { 96 }
+}
+
+// Three bytes a station, as far as the buffer goes.
+pub fn write(s: Stations, marks: u32, outcomes: &mut [u8])
+    ensures { λ _. ⌜ now (outcomes .exit) ≡ over (now (outcomes .entry)) 0 (reach (length (now (outcomes .entry)))) (outcome-at (s .value) (s .grade) marks) ⌝ }
+{
+    let value = s.value;
+    let grade = s.grade;
+    let end = reach(outcomes.len());
     let mut k: usize = 0;
-    while k < outcomes.len() {
-        if 96 <= k {
-            return;
-        }
+    while k < end {
         let i = k / 3;
         let bad = marks::is_marked(marks, i as u8);
-        outcomes[k] = outcome_byte(bad, s.value[i], s.grade[i], k % 3);
+        outcomes[k] = outcome_byte(bad, value[i], grade[i], k % 3);
         k += 1;
     }
 }

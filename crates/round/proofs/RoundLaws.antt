@@ -1,0 +1,119 @@
+-- Laws of one round: the counts of a receiver's column are its row's tallies, and the steps from counts those from the row. Assumes nothing.
+use Prim.Native.Nat.{ℕ, zero, suc, _+_, _-_, _≤_, _<_}
+use mathlib.Core.Path.{_≡_, refl, sym, ap, _∙_}
+use mathlib.Core.Bool.{Bool, true, false, _&&_, true≢false}
+use mathlib.Core.List.{List}
+use native.Mathlib.Omega.{arith}
+use lib.Dec.{leb, ltb}
+use borrow.Author.Tests.{leb-true, leb-false, ne-eqb}
+use lib.ListN.{length, getD}
+use Rattle.line.specs.Count.{if_then_else_}
+use Rattle.line.specs.Line.{has-round}
+use Rattle.broadcast.specs.Exchange.{Row, firsts, seconds, z-from, z-of, y-from, y-of, for-y, grade-of}
+use Rattle.broadcast.proofs.TallyLaws.{ones-are-bytes, zeros-and-ones, firsts-else, blanks-for-neither, for-y-is}
+use Rattle.column.specs.Column.{column, counted, count-of}
+use Rattle.column.proofs.ColumnLaws.{count-there}
+use Rattle.line.specs.Writing.{Each}
+use Rattle.broadcast.specs.Bytes.{tabulate}
+use Rattle.broadcast.proofs.BytesLaws.{getD-tabulate}
+use Rattle.step.specs.declared.Part.{Part}
+use Rattle.post.specs.Posted.{posted}
+use Rattle.post.proofs.PostLaws.{posted-as}
+use Rattle.round.specs.declared.Stations.{Stations}
+use Rattle.round.specs.Round.{said-by, Taken, speaker-within, playable, Plays, equal-to}
+use Rattle.round.specs.Outcome.{reach}
+
+-- ---- outcomes
+
+pub reach-within : (size : ℕ) → (reach size ≤ size) × (reach size ≤ 96)
+unfolding reach
+reach-within size = go (leb size 96) refl
+  where
+    go : (b : Bool) → leb size 96 ≡ b → ((if b then size else 96) ≤ size) × ((if b then size else 96) ≤ 96)
+    go true e = (omega arith, leb-true size 96 e)
+    go false e = (omega (arith, leb-false size 96 e), omega arith)
+
+-- ---- from counts
+
+-- what is not a one is a zero
+equal-is : (n x : ℕ) (row : Row) → equal-to n x (firsts n 1 row) ≡ firsts n x row
+unfolding equal-to
+equal-is n zero row = omega (arith, zeros-and-ones n row)
+equal-is n (suc zero) row = refl
+equal-is n (suc (suc x)) row =
+    rw (ne-eqb (suc (suc x)) 1 (omega arith), ne-eqb (suc (suc x)) 0 (omega arith)) (sym (firsts-else n (suc (suc x)) row (omega arith)))
+
+module _ (n start : ℕ) (log : List ℕ) (room : has-round n start (length log) ≡ true) (j : ℕ) where
+  ones-are : count-of n log start 1 j ≡ firsts n 1 (column log start n j)
+  unfolding counted
+  ones-are = count-there n log start 1 room j ∙ sym (ones-are-bytes n (column log start n j))
+
+  seconds-are : (v : ℕ) → v ≤ 1 → count-of n log start v j ≡ seconds n v (column log start n j)
+  unfolding counted
+  seconds-are v h = count-there n log start v room j ∙ sym (blanks-for-neither n v (column log start n j) h)
+
+  -- step 2
+  pub z-made : (T x ones : ℕ) → ones ≡ count-of n log start 1 j → z-from n T x (equal-to n x ones) ≡ z-of n T x (column log start n j)
+  unfolding z-of
+  z-made T x ones e = rw (e, ones-are) (ap (z-from n T x) (equal-is n x (column log start n j)))
+
+  module _ (zeros ones : ℕ) (a : zeros ≡ count-of n log start 0 j) (b : ones ≡ count-of n log start 1 j) where
+    -- step 4
+    pub y-made : y-from zeros ones ≡ y-of n (column log start n j)
+    unfolding y-of
+    y-made = rw (a, b, seconds-are 0 (omega arith), seconds-are 1 (omega arith))
+
+    -- step 5
+    pub grade-made : (t T : ℕ)
+        → grade-of n t T (for-y zeros ones) ≡ grade-of n t T (seconds n (y-of n (column log start n j)) (column log start n j))
+    grade-made t T =
+        rw (a, b, seconds-are 0 (omega arith), seconds-are 1 (omega arith)) (ap (grade-of n t T) (for-y-is n (column log start n j)))
+
+-- ---- a round that is played, and one that isn't
+
+module _ (n sender : ℕ) (p : Part) (start log-size table-size : ℕ) where
+  pub played : speaker-within n sender p ≡ true → has-round n start log-size ≡ true → has-round n start table-size ≡ true
+      → playable n sender p start log-size table-size ≡ true
+  unfolding playable
+  played a b c = rw (a, b, c)
+
+  pub no-table : has-round n start table-size ≡ false → playable n sender p start log-size table-size ≡ false
+  unfolding playable
+  no-table c = rw c (go (speaker-within n sender p) (has-round n start log-size))
+    where
+      go : (a b : Bool) → (a && (b && false)) ≡ false
+      go true true = refl
+      go true false = refl
+      go false b = refl
+
+  pub no-log : has-round n start log-size ≡ false → playable n sender p start log-size table-size ≡ false
+  unfolding playable
+  no-log b = rw b (go (speaker-within n sender p))
+    where
+      go : (a : Bool) → (a && false) ≡ false
+      go true = refl
+      go false = refl
+
+  pub no-speaker : speaker-within n sender p ≡ false → playable n sender p start log-size table-size ≡ false
+  unfolding playable
+  no-speaker a = rw a
+
+module _ (n t T sender : ℕ) (p : Part) (s : Stations) (marks : ℕ) (table : List ℕ) (start : ℕ) (log : List ℕ) where
+  -- nothing is written, and all stations stay
+  pub stayed : playable n sender p start (length log) (length table) ≡ false → Plays n t T sender p s marks table start log log s
+  stayed e = record {
+    log-is = rw e;
+    takes = λ q. absurd (true≢false (sym q ∙ e));
+    stays = λ _. refl;
+  }
+
+  -- the round is posted with what was said, and taken
+  pub went : playable n sender p start (length log) (length table) ≡ true → (said : List ℕ) → Each n said (said-by sender p s)
+      → (log′ : List ℕ) (s′ : Stations) → log′ ≡ posted n marks said table log start → Taken n t T sender p s log′ start s′
+      → Plays n t T sender p s marks table start log log′ s′
+  unfolding Each
+  went e said each log′ s′ q takes = record {
+    log-is = rw e (q ∙ posted-as n marks said (tabulate n (said-by sender p s)) table log start (λ i h. each i h ∙ sym (getD-tabulate n (said-by sender p s) i h)));
+    takes = λ _. takes;
+    stays = λ f. absurd (true≢false (sym e ∙ f));
+  }

@@ -1,0 +1,65 @@
+-- `hear_sender` meets its contract.
+use borrow.Author.Needs.{needs}
+use native.Mathlib.Omega.{arith}
+use Prim.Native.Nat.{_+_, _≤_, _-_}
+use mathlib.Core.Path.{_≡_, refl, ap, _∙_}
+use lib.ListN.{length, getD, length-set}
+use Rattle.line.specs.Writing.{Each}
+use Rattle.line.proofs.WritingLaws.{each-none, each-turn}
+use Rattle.line.specs.Ballot.{read-sender}
+use Rattle.round.proofs.hear_sender.Statement.{statement}
+use Rattle.round.proofs.hear_sender.Tie as tie
+
+abbrev Inv-loop : tie.InvT-loop
+Inv-loop n log at next₀ j₀ next j = (j ≤ n) × (length next ≡ 32) × Each j next (λ k. read-sender (getD log (at + k) 0))
+
+abbrev μ-loop : tie.MeasureT-loop
+μ-loop n log at next₀ j₀ next j = n - j
+
+loop-holds : tie.Need-loop-holds Inv-loop μ-loop
+loop-holds c = (omega arith, refl, each-none _ _)
+
+add-read-sender : tie.Need-add-read-sender Inv-loop μ-loop
+add-read-sender c = search needs
+
+shared-slice-read-read-sender : tie.Need-shared-slice-read-read-sender Inv-loop μ-loop
+shared-slice-read-read-sender c = search needs
+
+read-sender-requires : tie.Need-read-sender-requires Inv-loop μ-loop
+read-sender-requires c κs = search needs
+
+array-write-next : tie.Need-array-write-next Inv-loop μ-loop
+array-write-next c = search needs
+
+add-j : tie.Need-add-j Inv-loop μ-loop
+add-j c = search needs
+
+loop-less : tie.Need-loop-less Inv-loop μ-loop
+loop-less c = search needs
+
+loop-again : tie.Need-loop-again Inv-loop μ-loop
+loop-again c =
+    let a = c .before .before .before in
+    (omega arith, simp length-set (a .loop .inv .1), each-turn (a .loop .next) _ (a .loop .j) _ (omega (arith, a .loop .inv .1, a .before .before .pre .0)) (a .loop .inv .2) (c .read-sender .ensures))
+
+returns : tie.Need-returns Inv-loop μ-loop
+returns c =
+    let a = c .before in
+    let e : a .loop .j ≡ a .before .before .args .n = omega arith in
+    rw e at (a .loop .inv .2)
+
+pub hear-sender-spec : {M : Type 1} → statement M
+hear-sender-spec =
+    tie.close
+    (tie.spec
+    Inv-loop
+    μ-loop
+    loop-holds
+    add-read-sender
+    shared-slice-read-read-sender
+    read-sender-requires
+    array-write-next
+    add-j
+    loop-less
+    loop-again
+    returns)

@@ -1,0 +1,18 @@
+-- `outcome::reach` meets its contract.
+use mathlib.Core.Path.{sym}
+use borrow.Author.Tests.{le-leb, lt-leb}
+use Rattle.line.proofs.CountLaws.{if-true, if-false}
+use Rattle.round.specs.Outcome.{reach}
+use Rattle.round.proofs.outcome.reach.Statement.{statement}
+use Rattle.round.proofs.outcome.reach.Tie as tie
+
+returns : tie.Need-returns
+unfolding reach
+returns c = sym (if-true _ _ (le-leb _ 96 (c .if1 .taken)))
+
+returns-2 : tie.Need-returns-2
+unfolding reach
+returns-2 c = sym (if-false _ _ (lt-leb _ 96 (c .if1 .left)))
+
+pub reach-spec : {M : Type 1} → statement M
+reach-spec = tie.close (tie.spec returns returns-2)
