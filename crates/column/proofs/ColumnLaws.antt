@@ -2,17 +2,18 @@
 use Prim.Native.Nat.{ℕ, zero, suc, _+_, _*_, _≤_, _<_}
 use mathlib.Core.Logic.{_≢_}
 use mathlib.Core.Path.{_≡_, refl, sym, _∙_}
-use mathlib.Core.Bool.{Bool, true, false}
+use mathlib.Core.Bool.{Bool, true, false, _&&_}
 use mathlib.Core.List.{List}
 use native.Mathlib.Omega.{arith}
-use lib.Dec.{eqb}
+use lib.Dec.{eqb, ltb}
+use borrow.Author.Tests.{lt-ltb, le-ltb}
 use lib.ListN.{length, getD, set, replicate, getD-replicate}
 use lib.Seq.{getD-set-other}
 use Rattle.line.specs.Count.{if_then_else_, count}
 use Rattle.line.specs.Line.{has-round}
 use Rattle.line.specs.Writing.{Each}
 use Rattle.line.proofs.CountLaws.{if-true, if-false, count-zero, count-le, count-hit, count-miss}
-use Rattle.column.specs.Column.{column, counted, count-of, byte-to, hit, more, AtMost, Rest}
+use Rattle.column.specs.Column.{column, counted, count-of, sent-by, byte-to, hit, more, AtMost, Rest}
 
 pub rest-all : (l : List ℕ) → Rest 0 l l
 unfolding Rest
@@ -94,3 +95,20 @@ pub count-not : (n : ℕ) (bytes : List ℕ) (start v : ℕ) → has-round n sta
     → Each n (replicate 32 0) (count-of n bytes start v)
 unfolding count-of Each
 count-not n bytes start v h j k = rw h (zeros 32 j)
+
+module _ (n : ℕ) (bytes : List ℕ) (start i : ℕ) where
+  pub sent-there : i < n → has-round n start (length bytes) ≡ true → (j : ℕ) → sent-by n bytes start i j ≡ column bytes start n j i
+  unfolding sent-by
+  sent-there h k j = rw (lt-ltb i n h, k)
+
+  pub sent-no-round : has-round n start (length bytes) ≡ false → Each n (replicate 32 0) (sent-by n bytes start i)
+  unfolding sent-by Each
+  sent-no-round h j k = rw h (go (ltb i n))
+    where
+      go : (b : Bool) → getD {A = ℕ} (replicate 32 0) j 0 ≡ (if b && false then column bytes start n j i else 0)
+      go true = zeros 32 j
+      go false = zeros 32 j
+
+  pub sent-no-station : n ≤ i → Each n (replicate 32 0) (sent-by n bytes start i)
+  unfolding sent-by Each
+  sent-no-station h j k = rw (le-ltb i n h) (zeros 32 j)

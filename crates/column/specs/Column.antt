@@ -2,7 +2,8 @@
 use Prim.Native.Nat.{ℕ, _+_, _*_, _≤_, _<_}
 use mathlib.Core.Path.{_≡_}
 use mathlib.Core.List.{List}
-use lib.Dec.{eqb}
+use mathlib.Core.Bool.{_&&_}
+use lib.Dec.{eqb, ltb}
 use lib.ListN.{length, getD}
 use Rattle.line.specs.Count.{if_then_else_, count}
 use Rattle.line.specs.Line.{has-round}
@@ -18,6 +19,10 @@ counted bytes start n v m j = count m (λ i. eqb (column bytes start n j i) v)
 -- from all n stations, 0 where the bytes have no such round
 unfoldable pub count-of : ℕ → List ℕ → ℕ → ℕ → ℕ → ℕ
 count-of n bytes start v j = if has-round n start (length bytes) then counted bytes start n v n j else 0
+
+-- the byte from station i to j, 0 where the bytes have no such round or the line no such station
+unfoldable pub sent-by : ℕ → List ℕ → ℕ → ℕ → ℕ → ℕ
+sent-by n bytes start i j = if ltb i n && has-round n start (length bytes) then column bytes start n j i else 0
 
 -- ---- for private functions
 

@@ -3,7 +3,7 @@ ghost use mathlib.Core.Path.{_≡_};
 ghost use Prim.Native.Nat.{_+_, _*_, _≤_, _<_};
 ghost use lib.ListN.{length};
 ghost use Rattle.line.specs.Writing.{Each};
-ghost use Rattle.column.specs.Column.{AtMost, byte-to, hit, more, counted, count-of};
+ghost use Rattle.column.specs.Column.{AtMost, byte-to, hit, more, counted, count-of, sent-by};
 use line::Line;
 
 // The first n bytes of one sender to all.
@@ -74,6 +74,20 @@ pub fn count(line: Line, bytes: &[u8], start: usize, v: u8) -> [u8; 32]
 {
     if line.has_round(start, bytes.len()) {
         return count_all(bytes, start, line.n as usize, v);
+    }
+    [0u8; 32]
+}
+
+// The bytes of station i to each receiver, in the round that starts at `start`; 0 where the bytes have no such round or the line no such station. Places beyond n
+// are of no receiver, and open.
+pub fn sent_by(line: Line, bytes: &[u8], start: usize, i: u8) -> [u8; 32]
+    ensures { λ r. ⌜ Each (line .n) r (sent-by (line .n) (now (bytes .entry)) start i) ⌝ }
+{
+    if i < line.n {
+        if line.has_round(start, bytes.len()) {
+            let n = line.n as usize;
+            return heard(bytes, start + (i as usize) * n, n);
+        }
     }
     [0u8; 32]
 }

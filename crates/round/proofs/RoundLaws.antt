@@ -4,11 +4,11 @@ use mathlib.Core.Path.{_≡_, refl, sym, ap, _∙_}
 use mathlib.Core.Bool.{Bool, true, false, _&&_, true≢false}
 use mathlib.Core.List.{List}
 use native.Mathlib.Omega.{arith}
-use lib.Dec.{leb, ltb}
-use borrow.Author.Tests.{leb-true, leb-false, ne-eqb}
+use borrow.Author.Tests.{ne-eqb}
 use lib.ListN.{length, getD}
 use Rattle.line.specs.Count.{if_then_else_}
-use Rattle.line.specs.Line.{has-round}
+use Rattle.line.specs.Line.{in-array, has-round}
+use Rattle.line.proofs.LineLaws.{in-array-is}
 use Rattle.broadcast.specs.Exchange.{Row, firsts, seconds, z-from, z-of, y-from, y-of, for-y, grade-of}
 use Rattle.broadcast.proofs.TallyLaws.{ones-are-bytes, zeros-and-ones, firsts-else, blanks-for-neither, for-y-is}
 use Rattle.column.specs.Column.{column, counted, count-of}
@@ -19,19 +19,13 @@ use Rattle.broadcast.proofs.BytesLaws.{getD-tabulate}
 use Rattle.step.specs.declared.Part.{Part}
 use Rattle.post.specs.Posted.{posted}
 use Rattle.post.proofs.PostLaws.{posted-as}
+use Rattle.stations.specs.Counts.{equal-to}
 use Rattle.round.specs.declared.Stations.{Stations}
-use Rattle.round.specs.Round.{said-by, Taken, speaker-within, playable, Plays, equal-to}
-use Rattle.round.specs.Outcome.{reach}
+use Rattle.round.specs.Round.{said-by, Taken, speaker-within, playable, Plays}
 
--- ---- outcomes
-
-pub reach-within : (size : ℕ) → (reach size ≤ size) × (reach size ≤ 96)
-unfolding reach
-reach-within size = go (leb size 96) refl
-  where
-    go : (b : Bool) → leb size 96 ≡ b → ((if b then size else 96) ≤ size) × ((if b then size else 96) ≤ 96)
-    go true e = (omega arith, leb-true size 96 e)
-    go false e = (omega (arith, leb-false size 96 e), omega arith)
+-- a line of at most 32 has all its stations in an array
+pub all-of : (n : ℕ) (l : List ℕ) (F : ℕ → ℕ) → n ≤ 32 → Each (in-array n) l F → Each n l F
+all-of n l F h each = rw (in-array-is n h) at each
 
 -- ---- from counts
 

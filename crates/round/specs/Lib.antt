@@ -1,3 +1,2 @@
--- What crate round promises: Round of one round of a whole line, Outcome of the outcomes' bytes.
+-- What crate round promises.
 pub mod Round
-pub mod Outcome

@@ -1,10 +1,10 @@
 -- One round of a whole line, in the automaton's words (crate broadcast, specs/Station.antt): every station tells its ballot, and takes its column of the log.
 -- Stations are counted from 0.
-use Prim.Native.Nat.{ℕ, _+_, _-_, _<_}
+use Prim.Native.Nat.{ℕ, _+_, _<_}
 use mathlib.Core.Path.{_≡_}
 use mathlib.Core.Bool.{Bool, true, false, _&&_}
 use mathlib.Core.List.{List}
-use lib.Dec.{eqb, ltb}
+use lib.Dec.{ltb}
 use lib.ListN.{length, getD}
 use Rattle.line.specs.Count.{if_then_else_}
 use Rattle.line.specs.Line.{has-round}
@@ -53,9 +53,3 @@ pub record Plays (n t T sender : ℕ) (p : Part) (s : Stations) (marks : ℕ) (t
   -- every station has taken its column, or all are as they were
   pub takes : playable n sender p start (length log₀) (length table) ≡ true → Taken n t T sender p s log₁ start s′
   pub stays : playable n sender p start (length log₀) (length table) ≡ false → s′ ≡ s
-
--- ---- for private functions
-
--- how many ballots of a first round are read as x, where so many are ones
-unfoldable pub equal-to : ℕ → ℕ → ℕ → ℕ
-equal-to n x ones = if eqb x 1 then ones else (if eqb x 0 then n - ones else 0)

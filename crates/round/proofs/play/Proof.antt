@@ -7,7 +7,7 @@ use Rattle.line.specs.Writing.{Each}
 use Rattle.line.proofs.LineLaws.{round-means}
 use Rattle.post.proofs.PostLaws.{posted-length}
 use Rattle.round.specs.Round.{said-by}
-use Rattle.round.proofs.RoundLaws.{played, no-table, no-log, no-speaker, stayed, went}
+use Rattle.round.proofs.RoundLaws.{all-of, played, no-table, no-log, no-speaker, stayed, went}
 use Rattle.round.proofs.play.Statement.{statement}
 use Rattle.round.proofs.play.Tie as tie
 
@@ -20,11 +20,8 @@ has-round-requires c κs = search needs
 has-round-requires-2 : tie.Need-has-round-requires-2
 has-round-requires-2 c κs = search needs
 
-tell-all-requires : tie.Need-tell-all-requires
-tell-all-requires c κs =
-    let h = c .before .before .before .before in
-    let g = h .before .before .before .before .before .before .args in
-    round-means (g .line .n) (g .start) (length (g .log .now)) (sym (h .before .has-round .ensures) ∙ h .if2 .taken) .0
+tell-requires : tie.Need-tell-requires
+tell-requires c κs = search needs
 
 round-requires : tie.Need-round-requires
 round-requires c κs = search needs
@@ -50,7 +47,7 @@ returns c =
     (sym (h .before .before .before .before .before .speaker-within .ensures) ∙ h .before .before .before .before .if1 .taken)
     (sym (h .before .before .before .has-round .ensures) ∙ h .before .before .if2 .taken)
     (sym (h .before .has-round2 .ensures) ∙ h .if3 .taken))
-    _ (c .before .before .before .before .before .before .before .tell-all .ensures)
+    _ (all-of (g .line .n) _ _ (round-means (g .line .n) (g .start) (length (g .log .now)) (sym (h .before .before .before .has-round .ensures) ∙ h .before .before .if2 .taken) .0) (c .before .before .before .before .before .before .before .tell .ensures))
     _ _ (c .before .before .before .before .round .ensures) (c .take-all .ensures)
 
 returns-2 : tie.Need-returns-2
@@ -78,7 +75,7 @@ play-spec =
     speaker-within-requires
     has-round-requires
     has-round-requires-2
-    tell-all-requires
+    tell-requires
     round-requires
     take-all-requires
     same-length

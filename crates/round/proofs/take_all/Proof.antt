@@ -1,44 +1,28 @@
 -- `take_all` meets its contract, part by part.
 use borrow.Author.Needs.{needs}
-use Prim.Native.Nat.{_+_, _*_, _≤_, _<_}
-use native.Mathlib.Omega.{arith}
+use Prim.Native.Nat.{_≤_, _<_}
 use mathlib.Core.Path.{_≡_}
-use lib.Dec.{ltb}
 use lib.ListN.{length, getD}
 use borrow.Author.Tests.{ltb-true}
 use Rattle.line.specs.Writing.{Each}
-use Rattle.line.proofs.LineLaws.{product-fits, row-within, round-means}
+use Rattle.line.proofs.LineLaws.{round-means}
+use Rattle.broadcast.specs.Exchange.{z-from, y-from, for-y, grade-of}
 use Rattle.broadcast.specs.Station.{next, taken}
-use Rattle.column.specs.Column.{column}
+use Rattle.stations.specs.Counts.{equal-to}
+use Rattle.column.proofs.ColumnLaws.{sent-there}
 use Rattle.round.specs.Round.{Taken}
-use Rattle.round.proofs.RoundLaws.{z-made, y-made, grade-made}
+use Rattle.round.proofs.RoundLaws.{all-of, z-made, y-made, grade-made}
 use Rattle.round.proofs.take_all.Statement.{statement}
 use Rattle.round.proofs.take_all.Tie as tie
-
-cast-n : tie.Need-cast-n
-cast-n c = search needs
 
 enum-told : tie.Need-enum-told
 enum-told c = search needs
 
-mul-hear-sender : tie.Need-mul-hear-sender
-mul-hear-sender c = product-fits {p = 255} {q = 255} (omega arith) (omega arith) tt
+sent-by-requires : tie.Need-sent-by-requires
+sent-by-requires c κs = search needs
 
-add-hear-sender : tie.Need-add-hear-sender
-add-hear-sender c =
-    let s = c .before .before .before .before .before .before .before in
-    let g = s .args in
-    let room = round-means (g .line .n) (g .start) (length (g .log .now)) (s .pre .0) in
-    let here : g .sender < g .line .n = ltb-true _ _ (rw (c .enum-told .given .1) at (s .pre .1)) in
-    omega (arith, room .1, row-within (g .sender) (g .line .n) (g .line .n) here)
-
-hear-sender-requires : tie.Need-hear-sender-requires
-hear-sender-requires c κs =
-    let s = c .before .before .before .before .before .before .before in
-    let g = s .args in
-    let room = round-means (g .line .n) (g .start) (length (g .log .now)) (s .pre .0) in
-    let here : g .sender < g .line .n = ltb-true _ _ (rw (c .enum-told .given .1) at (s .pre .1)) in
-    (room .0, omega (arith, room .1, row-within (g .sender) (g .line .n) (g .line .n) here))
+hear-requires : tie.Need-hear-requires
+hear-requires c κs = search needs
 
 enum-told-2 : tie.Need-enum-told-2
 enum-told-2 c = search needs
@@ -46,10 +30,8 @@ enum-told-2 c = search needs
 count-requires : tie.Need-count-requires
 count-requires c κs = search needs
 
-all-z-requires : tie.Need-all-z-requires
-all-z-requires c κs =
-    let s = c .before .before .before .before .before .before .before .before in
-    round-means (s .args .line .n) (s .args .start) (length (s .args .log .now)) (s .pre .0) .0
+choose-requires : tie.Need-choose-requires
+choose-requires c κs = search needs
 
 enum-told-3 : tie.Need-enum-told-3
 enum-told-3 c = search needs
@@ -60,89 +42,79 @@ count-requires-2 c κs = search needs
 count-requires-3 : tie.Need-count-requires-3
 count-requires-3 c κs = search needs
 
-all-y-requires : tie.Need-all-y-requires
-all-y-requires c κs =
-    let s = c .before .before .before .before .before .before .before .before .before in
-    round-means (s .args .line .n) (s .args .start) (length (s .args .log .now)) (s .pre .0) .0
+decide-requires : tie.Need-decide-requires
+decide-requires c κs = search needs
 
-all-grades-requires : tie.Need-all-grades-requires
-all-grades-requires c κs =
-    let s = c .before .before .before .before .before .before .before .before .before .before in
-    round-means (s .args .line .n) (s .args .start) (length (s .args .log .now)) (s .pre .0) .0
+grade-requires : tie.Need-grade-requires
+grade-requires c κs = search needs
 
 enum-known-part : tie.Need-enum-known-part
 enum-known-part c = search needs
 
-cast-hear-king : tie.Need-cast-hear-king
-cast-hear-king c = search needs
+sent-by-requires-2 : tie.Need-sent-by-requires-2
+sent-by-requires-2 c κs = search needs
 
-mul-hear-king : tie.Need-mul-hear-king
-mul-hear-king c = product-fits {p = 255} {q = 255} (omega arith) (omega arith) tt
-
-add-hear-king : tie.Need-add-hear-king
-add-hear-king c =
-    let s = c .before .before .before .before .before .before .before .before in
-    let g = s .args in
-    let king = c .before .part .given .0 .0 in
-    let room = round-means (g .line .n) (g .start) (length (g .log .now)) (s .pre .0) in
-    let here : king < g .line .n = ltb-true _ _ (rw (c .before .part .given .1) at (s .pre .1)) in
-    omega (arith, room .1, row-within king (g .line .n) (g .line .n) here)
-
-hear-king-requires : tie.Need-hear-king-requires
-hear-king-requires c κs =
-    let s = c .before .before .before .before .before .before .before .before in
-    let g = s .args in
-    let king = c .before .part .given .0 .0 in
-    let room = round-means (g .line .n) (g .start) (length (g .log .now)) (s .pre .0) in
-    let here : king < g .line .n = ltb-true _ _ (rw (c .before .part .given .1) at (s .pre .1)) in
-    (room .0, omega (arith, room .1, row-within king (g .line .n) (g .line .n) here))
+obey-requires : tie.Need-obey-requires
+obey-requires c κs = search needs
 
 returns : tie.Need-returns
-unfolding Taken Each taken next column
-returns c = λ r j h. rw (c .before .enum-told .given .1, c .hear-sender .ensures j h)
+unfolding Taken Each taken next
+returns c =
+    let s = c .before .before .before .before .before .before .before .before in
+    let g = s .args in
+    let most = round-means (g .line .n) (g .start) (length (g .log .now)) (s .pre .0) .0 in
+    let here : g .sender < g .line .n = ltb-true _ _ (rw (c .before .before .enum-told .given .1) at (s .pre .1)) in
+    λ r j h. rw (c .before .before .enum-told .given .1, all-of (g .line .n) _ _ most (c .hear .ensures) j h, c .before .sent-by .ensures j h, sent-there (g .line .n) (g .log .now) (g .start) (g .sender) here (s .pre .0) j)
 
 returns-2 : tie.Need-returns-2
 unfolding Taken Each taken next
 returns-2 c =
-    let s = c .before .before .before .before .before .before .before .before .before in
+    let s = c .before .before .before .before .before .before .before .before in
     let g = s .args in
-    λ r j h. rw (c .before .before .enum-told2 .given .1, c .all-z .ensures j h, z-made (g .line .n) (g .start) (g .log .now) (s .pre .0) j (g .line .upper) _ _ (c .before .count .ensures j h))
+    let most = round-means (g .line .n) (g .start) (length (g .log .now)) (s .pre .0) .0 in
+    let z = all-of (g .line .n) (c .choose .result) (λ j. z-from (g .line .n) (g .line .upper) (getD (g .s .value) j 0) (equal-to (g .line .n) (getD (g .s .value) j 0) (getD (c .before .count .result) j 0))) most (c .choose .ensures) in
+    λ r j h. rw (c .before .before .enum-told2 .given .1, z j h, z-made (g .line .n) (g .start) (g .log .now) (s .pre .0) j (g .line .upper) _ _ (c .before .count .ensures j h))
 
 returns-3 : tie.Need-returns-3
 unfolding Taken Each taken next
 returns-3 c =
-    let s = c .before .before .before .before .before .before .before .before .before .before .before in
+    let s = c .before .before .before .before .before .before .before .before .before .before in
     let g = s .args in
+    let most = round-means (g .line .n) (g .start) (length (g .log .now)) (s .pre .0) .0 in
     let zs = c .before .before .before .count2 in
     let os = c .before .before .count3 in
-    λ r j h. rw (c .before .before .before .before .enum-told3 .given .1, c .before .all-y .ensures j h, c .all-grades .ensures j h, y-made (g .line .n) (g .start) (g .log .now) (s .pre .0) j _ _ (zs .ensures j h) (os .ensures j h), grade-made (g .line .n) (g .start) (g .log .now) (s .pre .0) j _ _ (zs .ensures j h) (os .ensures j h) (g .line .t) (g .line .upper))
+    let y = all-of (g .line .n) (c .before .decide .result) (λ j. y-from (getD (zs .result) j 0) (getD (os .result) j 0)) most (c .before .decide .ensures) in
+    let grade = all-of (g .line .n) (c .grade2 .result) (λ j. grade-of (g .line .n) (g .line .t) (g .line .upper) (for-y (getD (zs .result) j 0) (getD (os .result) j 0))) most (c .grade2 .ensures) in
+    λ r j h. rw (c .before .before .before .before .enum-told3 .given .1, y j h, grade j h, y-made (g .line .n) (g .start) (g .log .now) (s .pre .0) j _ _ (zs .ensures j h) (os .ensures j h), grade-made (g .line .n) (g .start) (g .log .now) (s .pre .0) j _ _ (zs .ensures j h) (os .ensures j h) (g .line .t) (g .line .upper))
 
 returns-4 : tie.Need-returns-4
-unfolding Taken Each taken next column
-returns-4 c = λ r j h. rw (c .before .before .part .given .1, c .hear-king .ensures j h)
+unfolding Taken Each taken next
+returns-4 c =
+    let s = c .before .before .before .before .before .before .before .before .before in
+    let g = s .args in
+    let king = c .before .before .before .part .given .0 .0 in
+    let most = round-means (g .line .n) (g .start) (length (g .log .now)) (s .pre .0) .0 in
+    let here : king < g .line .n = ltb-true _ _ (rw (c .before .before .before .part .given .1) at (s .pre .1)) in
+    λ r j h. rw (c .before .before .before .part .given .1, all-of (g .line .n) _ _ most (c .obey .ensures) j h, c .before .sent-by2 .ensures j h, sent-there (g .line .n) (g .log .now) (g .start) king here (s .pre .0) j)
 
 pub take-all-spec : {M : Type 1} → statement M
 take-all-spec =
     tie.close
     (tie.spec
-    cast-n
     enum-told
-    mul-hear-sender
-    add-hear-sender
-    hear-sender-requires
+    sent-by-requires
+    hear-requires
     enum-told-2
     count-requires
-    all-z-requires
+    choose-requires
     enum-told-3
     count-requires-2
     count-requires-3
-    all-y-requires
-    all-grades-requires
+    decide-requires
+    grade-requires
     enum-known-part
-    cast-hear-king
-    mul-hear-king
-    add-hear-king
-    hear-king-requires
+    sent-by-requires-2
+    obey-requires
     returns
     returns-2
     returns-3

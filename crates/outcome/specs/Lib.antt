@@ -1,0 +1,2 @@
+-- What crate outcome writes.
+pub mod Outcome

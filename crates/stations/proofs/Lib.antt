@@ -1,0 +1,1 @@
+-- In a folder for each function is the proof that it meets its contract.

@@ -1,0 +1,116 @@
+// The steps at all stations of a line at once, from their bytes and counts. The place i of an array is the station counted i from 0; places beyond n are of no
+// station, and open.
+ghost use lib.ListN.{getD};
+ghost use mathlib.Core.Path.{_≡_};
+ghost use Rattle.line.specs.Ballot.{read-sender};
+ghost use Rattle.line.specs.Line.{in-array};
+ghost use Rattle.line.specs.Writing.{Each};
+ghost use Rattle.broadcast.specs.Exchange.{z-from, y-from, for-y, grade-of};
+ghost use Rattle.broadcast.specs.Broadcast.{obey};
+ghost use Rattle.broadcast.specs.Station.{told};
+ghost use Rattle.step.specs.Part.{of-part};
+ghost use Rattle.stations.specs.Counts.{equal-to};
+use line::Line;
+use line::ballot;
+use step::Part;
+
+// What each station tells.
+pub fn tell(line: Line, sender: u8, part: Part, value: [u8; 32], z: [u8; 32]) -> [u8; 32]
+    ensures { λ r. ⌜ Each (in-array (line .n)) r (λ i. told sender i (getD value i 0) (getD z i 0) (of-part part)) ⌝ }
+{
+    let n = line.in_array();
+    let mut said = [0u8; 32];
+    let mut i: u8 = 0;
+    while i < n {
+        let k = i as usize;
+        said[k] = step::told(part, sender, i, value[k], z[k]);
+        i += 1;
+    }
+    said
+}
+
+// Round 1: each station's x, from the sender's byte to it.
+pub fn hear(line: Line, heard: [u8; 32]) -> [u8; 32]
+    ensures { λ r. ⌜ Each (in-array (line .n)) r (λ j. read-sender (getD heard j 0)) ⌝ }
+{
+    let n = line.in_array();
+    let mut next = [0u8; 32];
+    let mut j: u8 = 0;
+    while j < n {
+        let k = j as usize;
+        next[k] = ballot::read_sender(heard[k]);
+        j += 1;
+    }
+    next
+}
+
+// How many ballots of a first round are read as x, where so many are ones: every other is a zero.
+fn equal_to(n: u8, x: u8, ones: u8) -> u8
+    ensures { λ r. ⌜ r ≡ equal-to n x ones ⌝ }
+{
+    if x == 1 {
+        return ones;
+    }
+    if x == 0 { step::less(n, ones) } else { 0 }
+}
+
+// The first round of an exchange: each station's z.
+pub fn choose(line: Line, x: [u8; 32], ones: [u8; 32]) -> [u8; 32]
+    ensures { λ r. ⌜ Each (in-array (line .n)) r (λ j. z-from (line .n) (line .upper) (getD x j 0) (equal-to (line .n) (getD x j 0) (getD ones j 0))) ⌝ }
+{
+    let n = line.in_array();
+    let mut next = [0u8; 32];
+    let mut j: u8 = 0;
+    while j < n {
+        let k = j as usize;
+        let count = equal_to(line.n, x[k], ones[k]);
+        next[k] = step::z(line.n, line.upper, x[k], count);
+        j += 1;
+    }
+    next
+}
+
+// The second: each station's y ..
+pub fn decide(line: Line, zeros: [u8; 32], ones: [u8; 32]) -> [u8; 32]
+    ensures { λ r. ⌜ Each (in-array (line .n)) r (λ j. y-from (getD zeros j 0) (getD ones j 0)) ⌝ }
+{
+    let n = line.in_array();
+    let mut next = [0u8; 32];
+    let mut j: u8 = 0;
+    while j < n {
+        let k = j as usize;
+        next[k] = step::y(zeros[k], ones[k]);
+        j += 1;
+    }
+    next
+}
+
+// .. and grade.
+pub fn grade(line: Line, zeros: [u8; 32], ones: [u8; 32]) -> [u8; 32]
+    ensures { λ r. ⌜ Each (in-array (line .n)) r (λ j. grade-of (line .n) (line .t) (line .upper) (for-y (getD zeros j 0) (getD ones j 0))) ⌝ }
+{
+    let n = line.in_array();
+    let mut next = [0u8; 32];
+    let mut j: u8 = 0;
+    while j < n {
+        let k = j as usize;
+        next[k] = step::grade(line.n, line.t, line.upper, zeros[k], ones[k]);
+        j += 1;
+    }
+    next
+}
+
+// The king's round: each station's value, from the king's byte to it.
+pub fn obey(line: Line, grade: [u8; 32], y: [u8; 32], heard: [u8; 32]) -> [u8; 32]
+    ensures { λ r. ⌜ Each (in-array (line .n)) r (λ j. obey (getD grade j 0) (getD y j 0) (getD heard j 0)) ⌝ }
+{
+    let n = line.in_array();
+    let mut next = [0u8; 32];
+    let mut j: u8 = 0;
+    while j < n {
+        let k = j as usize;
+        next[k] = step::obey(grade[k], y[k], heard[k]);
+        j += 1;
+    }
+    next
+}
