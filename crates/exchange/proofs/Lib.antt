@@ -1,2 +1,2 @@
--- The laws of the exchange had alone; and in a folder for each function the proof that it meets its contract.
-pub mod AloneLaws
+-- ExchangeLaws has the laws of the exchange had alone; in a folder for each function is the proof that it meets its contract.
+pub mod ExchangeLaws

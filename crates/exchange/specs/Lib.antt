@@ -1,5 +1,4 @@
--- What the calls of crate exchange promise, in terms of the definitions of crate broadcast (document 01, "The graded exchange"): Tally of one
--- station's rows, Alone of the exchange of a whole line. Loops is for private functions only.
-pub mod Tally
-pub mod Alone
-pub mod Loops
+-- What the exchange had alone promises, in terms of the definitions of crate broadcast (document 01, "The graded exchange"). Rounds is for private functions
+-- only.
+pub mod Promise
+pub mod Rounds

@@ -1,5 +1,5 @@
 -- Laws of one round: the counts of a receiver's column are its row's tallies, and the steps from counts those from the row. Assumes nothing.
-use Prim.Native.Nat.{ℕ, zero, suc, _+_, _-_, _≤_, _<_}
+use Prim.Native.Nat.{ℕ, zero, suc, _+_, _*_, _≤_, _<_}
 use mathlib.Core.Path.{_≡_, refl, sym, ap, _∙_}
 use mathlib.Core.Bool.{Bool, true, false, _&&_, true≢false}
 use mathlib.Core.List.{List}
@@ -18,7 +18,8 @@ use Rattle.broadcast.specs.Bytes.{tabulate}
 use Rattle.broadcast.proofs.BytesLaws.{getD-tabulate}
 use Rattle.step.specs.declared.Part.{Part}
 use Rattle.post.specs.Posted.{posted}
-use Rattle.post.proofs.PostLaws.{posted-as}
+use Rattle.line.specs.Marks.{marked}
+use Rattle.post.proofs.PostLaws.{posted-as, posted-at, posted-before, posted-length}
 use Rattle.stations.specs.Counts.{equal-to}
 use Rattle.round.specs.declared.Stations.{Stations}
 use Rattle.round.specs.Round.{said-by, Taken, speaker-within, playable, Plays}
@@ -71,6 +72,17 @@ module _ (n sender : ℕ) (p : Part) (start log-size table-size : ℕ) where
   unfolding playable
   played a b c = rw (a, b, c)
 
+  pub playable-means : playable n sender p start log-size table-size ≡ true
+      → (speaker-within n sender p ≡ true) × (has-round n start log-size ≡ true) × (has-round n start table-size ≡ true)
+  unfolding playable
+  playable-means = go (speaker-within n sender p) (has-round n start log-size) (has-round n start table-size)
+    where
+      go : (a b c : Bool) → (a && (b && c)) ≡ true → (a ≡ true) × (b ≡ true) × (c ≡ true)
+      go true true true e = (refl, refl, refl)
+      go true true false e = absurd (true≢false (sym e))
+      go true false c e = absurd (true≢false (sym e))
+      go false b c e = absurd (true≢false (sym e))
+
   pub no-table : has-round n start table-size ≡ false → playable n sender p start log-size table-size ≡ false
   unfolding playable
   no-table c = rw c (go (speaker-within n sender p) (has-round n start log-size))
@@ -111,3 +123,30 @@ module _ (n t T sender : ℕ) (p : Part) (s : Stations) (marks : ℕ) (table : L
     takes = λ _. takes;
     stays = λ f. absurd (true≢false (sym e ∙ f));
   }
+
+-- ---- what a played round leaves in the log
+
+module _ (n t T sender : ℕ) (p : Part) (s : Stations) (marks : ℕ) (table : List ℕ) (start : ℕ) (log₀ log₁ : List ℕ) (s′ : Stations)
+    (e : playable n sender p start (length log₀) (length table) ≡ true) (P : Plays n t T sender p s marks table start log₀ log₁ s′) where
+  said : List ℕ
+  said = tabulate n (said-by sender p s)
+
+  posts : log₁ ≡ posted n marks said table log₀ start
+  unfolding said
+  posts = P .log-is ∙ rw e
+
+  pub log-size : length log₁ ≡ length log₀
+  log-size = ap length posts ∙ posted-length said table marks start n log₀
+
+  pub log-before : (k : ℕ) → k < start → getD log₁ k 0 ≡ getD log₀ k 0
+  log-before k h = ap (λ (l : List ℕ). getD l k 0) posts ∙ posted-before said table marks start n log₀ k h
+
+  -- station j's column: the table's byte from a bad station, what a good one says
+  pub column-is : (i j : ℕ) → i < n → j < n
+      → column log₁ start n j i ≡ (if marked marks i then getD table (start + i * n + j) 0 else said-by sender p s i)
+  unfolding column said
+  column-is i j hi hj =
+      let (a, b, c) = playable-means n sender p start (length log₀) (length table) e in
+      ap (λ (l : List ℕ). getD l (start + i * n + j) 0) posts
+      ∙ posted-at said table marks start n log₀ b c i j hi hj
+      ∙ ap (λ (q : ℕ). if marked marks i then getD table (start + i * n + j) 0 else q) (getD-tabulate n (said-by sender p s) i hi)

@@ -1,12 +1,12 @@
--- `alone::judge_inputs` meets its contract: the length's test, then the count.
+-- `judge_inputs` meets its contract: the length's test, then the count.
 use borrow.Author.Needs.{needs}
 use mathlib.Core.Path.{sym, _∙_}
 use borrow.Author.Tests.{eq-eqb, ne-eqb}
 use lib.ListN.{length}
 use Rattle.refusal.proofs.HeaderLaws.{refused-false}
-use Rattle.exchange.specs.Alone.{inputs-verdict}
-use Rattle.exchange.proofs.alone.judge_inputs.Statement.{statement}
-use Rattle.exchange.proofs.alone.judge_inputs.Tie as tie
+use Rattle.exchange.specs.Promise.{inputs-verdict}
+use Rattle.exchange.proofs.judge_inputs.Statement.{statement}
+use Rattle.exchange.proofs.judge_inputs.Tie as tie
 
 count-foreign-requires : tie.Need-count-foreign-requires
 count-foreign-requires c κs = search needs

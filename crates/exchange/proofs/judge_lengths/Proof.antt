@@ -1,7 +1,7 @@
--- `alone::judge_lengths` meets its contract: each verdict is its definition's, and they are joined in its order.
+-- `judge_lengths` meets its contract: each verdict is its definition's, and they are joined in its order.
 use borrow.Author.Needs.{needs}
-use Rattle.exchange.proofs.alone.judge_lengths.Statement.{statement}
-use Rattle.exchange.proofs.alone.judge_lengths.Tie as tie
+use Rattle.exchange.proofs.judge_lengths.Statement.{statement}
+use Rattle.exchange.proofs.judge_lengths.Tie as tie
 
 cast-exact-length : tie.Need-cast-exact-length
 cast-exact-length c = search needs

@@ -1,8 +1,8 @@
--- `alone::judge` meets its contract: each verdict is its definition's, and they are joined in its order.
+-- `judge` meets its contract: each verdict is its definition's, and they are joined in its order.
 use borrow.Author.Needs.{needs}
-use Rattle.exchange.specs.Alone.{exchange-verdict}
-use Rattle.exchange.proofs.alone.judge.Statement.{statement}
-use Rattle.exchange.proofs.alone.judge.Tie as tie
+use Rattle.exchange.specs.Promise.{exchange-verdict}
+use Rattle.exchange.proofs.judge.Statement.{statement}
+use Rattle.exchange.proofs.judge.Tie as tie
 
 line-verdict-requires : tie.Need-line-verdict-requires
 line-verdict-requires c κs = search needs

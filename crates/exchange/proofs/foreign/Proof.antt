@@ -1,6 +1,6 @@
--- `alone::foreign` meets its contract: one test after the other.
-use Rattle.exchange.proofs.alone.foreign.Statement.{statement}
-use Rattle.exchange.proofs.alone.foreign.Tie as tie
+-- `foreign` meets its contract: one test after the other.
+use Rattle.exchange.proofs.foreign.Statement.{statement}
+use Rattle.exchange.proofs.foreign.Tie as tie
 
 returns : tie.Need-returns
 returns c = rw (c .if1 .taken)

@@ -1,8 +1,8 @@
--- `alone::exchange` meets its contract: what is accepted is `ready` and is written, what is refused is left. `exchanged` is the promise.
+-- `exchange` meets its contract: what is accepted is `ready` and is written, what is refused is left. `exchanged` is the promise.
 use borrow.Author.Needs.{needs}
-use Rattle.exchange.proofs.AloneLaws.{ready, exchanged}
-use Rattle.exchange.proofs.alone.exchange.Statement.{statement}
-use Rattle.exchange.proofs.alone.exchange.Tie as tie
+use Rattle.exchange.proofs.ExchangeLaws.{ready, exchanged}
+use Rattle.exchange.proofs.exchange.Statement.{statement}
+use Rattle.exchange.proofs.exchange.Tie as tie
 
 judge-requires : tie.Need-judge-requires
 judge-requires c κs = search needs

@@ -1,14 +1,14 @@
--- `alone::count_foreign` meets its contract. The loop's invariant: count is that of the first i inputs.
+-- `count_foreign` meets its contract. The loop's invariant: count is that of the first i inputs.
 use borrow.Author.Needs.{needs}
 use Prim.Native.Nat.{_≤_, _-_}
 use mathlib.Core.Path.{_≡_, sym, _∙_}
 use mathlib.Core.Logic.{⊎-elim}
 use native.Mathlib.Omega.{arith}
 use lib.ListN.{length}
-use Rattle.exchange.specs.Alone.{foreign-inputs}
-use Rattle.exchange.proofs.AloneLaws.{foreign-none, foreign-hit, foreign-miss, foreign-le}
-use Rattle.exchange.proofs.alone.count_foreign.Statement.{statement}
-use Rattle.exchange.proofs.alone.count_foreign.Tie as tie
+use Rattle.exchange.specs.Promise.{foreign-inputs}
+use Rattle.exchange.proofs.ExchangeLaws.{foreign-none, foreign-hit, foreign-miss, foreign-le}
+use Rattle.exchange.proofs.count_foreign.Statement.{statement}
+use Rattle.exchange.proofs.count_foreign.Tie as tie
 
 abbrev Inv-loop : tie.InvT-loop
 Inv-loop marks inputs count₀ i₀ count i = (i ≤ length inputs) × (count ≡ foreign-inputs i marks inputs)
