@@ -1,8 +1,6 @@
--- Theorems has the proof of each statement of specs/Theorems.antt, by BonderLaws. The others are the laws of the rehearsal's loops, and that they make the run;
+-- Theorems has the proof of each statement of specs/Theorems.antt, by BonderLaws. RunLaws says that the rounds make the run, CallLaws that single stations'
+-- calls do;
 -- and in a folder for each function is the proof that it meets its contract.
-pub mod WritingLaws
-pub mod ArrayLaws
-pub mod PostLaws
 pub mod RunLaws
 pub mod CallLaws
 pub mod PromiseLaws

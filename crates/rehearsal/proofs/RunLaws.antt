@@ -4,96 +4,44 @@ use Prim.Native.Nat.{ℕ, zero, suc, _+_, _-_, _*_, _/_, _%_, _≤_, _<_}
 use mathlib.Core.Path.{_≡_, refl, sym, ap, _∙_}
 use mathlib.Core.Bool.{Bool, true, false}
 use mathlib.Core.List.{List}
+use mathlib.Core.Logic.{_⊎_, inl, inr}
 use native.Mathlib.Omega.{arith}
 use native.Mathlib.Numerals.{add-one}
-use mathlib.Core.Logic.{_⊎_, inl, inr}
 use native.Mathlib.Nat.{mul-assoc, zero-mul, suc-mul, div-add-mod', div-lt-iff-lt-mul, mod-lt}
-use lib.ListN.{length, getD}
+use lib.ListN.{length, getD, replicate, getD-replicate}
 use lib.Seq.{ext-getD}
+use borrow.Author.Tests.{lt-ltb}
 use Rattle.line.specs.Count.{if_then_else_}
-use Rattle.line.specs.Line.{rounds, table-length, outcomes-length, place}
+use Rattle.line.specs.Line.{from-0, rounds, table-length, outcomes-length, place}
 use Rattle.line.specs.Marks.{marked}
-use Rattle.refusal.specs.Header.{Sound}
-use Rattle.refusal.specs.declared.cause.Verdict.the-variants.{Accepted}
-use Rattle.line.proofs.CountLaws.{le-or-lt}
-use Rattle.line.proofs.LineLaws.{table-bound, place-from-start}
-use Rattle.broadcast.specs.Station.{ballot, at, after}
-use Rattle.broadcast.specs.Bytes.{tabulate, Run, log, outcomes, setup, column}
-use Rattle.broadcast.specs.Theorems.{value-at, grade-at, flag-at, Follows, PutTogether}
-use Rattle.broadcast.proofs.RoundLaws.{after-range, after-round}
-use Rattle.broadcast.proofs.BytesLaws.{length-tabulate, tabulate-same}
-use Rattle.broadcast.proofs.Theorems.{log-bytes, outcome-bytes, station-follows-run, stations-make-run}
-use Rattle.station.specs.declared.Station.{Station}
-use Rattle.station.specs.declared.StationResult.the-variants.{Done}
-use Rattle.station.specs.Judgement as judgement
-use Rattle.station.specs.Answers.{result-by}
-use Rattle.station.specs.Automaton.{setup-of, opened-station, result-of, ballot-or-silence, advanced-or-same}
-use Rattle.station.proofs.SoundLaws.{sound-accepts, telling-accepts, taking-accepts}
 use Rattle.line.specs.Writing.{over}
-use Rattle.rehearsal.specs.Loops.{either, no-station, Opened-all, posted-byte, ballot-of, Round, station-after, Playable, Played, pick, result-byte, station-byte, outcome-at}
-use Rattle.line.proofs.WritingLaws.{over-length, over-at}
-use Rattle.rehearsal.proofs.PostLaws.{row-within}
+use Rattle.line.proofs.CountLaws.{le-or-lt}
+use Rattle.line.proofs.LineLaws.{table-bound, place-from-start, row-within, round-there}
+use Rattle.refusal.specs.Header.{Sound}
+use Rattle.broadcast.specs.Broadcast.{part, value-of, final-grade, final-flag}
+use Rattle.broadcast.specs.Station.{State, opened, ballot, advance, Result, done, at, after}
+use Rattle.broadcast.specs.Bytes.{setting, setting-of, Run, log, outcomes, setup, column}
+use Rattle.broadcast.specs.Guarantees.{Good}
+use Rattle.broadcast.specs.Theorems.{value-at, grade-at, Follows, PutTogether}
+use Rattle.broadcast.proofs.PartLaws.{part-sender, part-first, part-second, part-king, first-is, by-parts}
+use Rattle.broadcast.proofs.BytesLaws.{at-tabulate, good-value, good-grade}
+use Rattle.broadcast.proofs.Theorems.{log-bytes, done-after-rows, station-follows-run, stations-make-run}
+use Rattle.step.specs.Part.{as-part}
+use Rattle.step.proofs.StepLaws.{told-as, taken-as}
+use Rattle.column.specs.Column as columns
+use Rattle.round.specs.declared.Stations.{Stations}
+use Rattle.round.specs.Round.{setup-at, state-at, said-by, Taken, speaker-within, playable, Plays}
+use Rattle.round.proofs.RoundLaws.{taken-same, played, log-size, log-before, column-is}
+use Rattle.outcome.specs.Outcome.{outcome-at, reach}
+use Rattle.outcome.proofs.OutcomeLaws as outcome
+use Rattle.rehearsal.specs.Rounds.{Playable, Played}
+
+same-done : {r : Result} {a b c a′ b′ c′ : ℕ} → r ≡ done a b c → r ≡ done a′ b′ c′ → (a ≡ a′) × (b ≡ b′)
+same-done p q = (cc, cc)
 
 module _ (R : Run) (bytes₀ : List ℕ) (ready : Playable R bytes₀) where
   header : Sound (R .n) (R .t) (R .T) (R .sender) (R .value) (R .marks)
   header = ready .header
-
-  -- station i's setup in the run is that of its struct
-  its-setup : (i m : ℕ) → setup-of (station-after R i m) ≡ setup R i
-  unfolding station-after setup
-  its-setup i m = let e : i + 1 - 1 ≡ i = omega arith in rw e
-
-  -- station i is as document 01 wants it, in every round
-  its-sound : (i m : ℕ) → i < R .n → m ≤ rounds (R .t) → judgement.Sound (station-after R i m)
-  unfolding station-after
-  its-sound i m h l =
-      let g = after-range (setup R i) (R .value) (column (R .n) (log R) i) (header .value-bit) m in
-      let r = after-round (setup R i) (R .value) (column (R .n) (log R) i) m in
-      record {
-        most = header .most;
-        fits = header .fits;
-        sender-low = header .sender-low;
-        sender-high = header .sender-high;
-        own-low = omega arith;
-        own-high = omega arith;
-        round-low = omega arith;
-        round-high = omega arith;
-        value-bit = g .value-bit;
-        z-high = g .z-high;
-        grade-high = g .grade-high;
-      }
-
-  -- ---- what it sends
-
-  its-telling : (i m : ℕ) → i < R .n → m < rounds (R .t) → judgement.telling-verdict (station-after R i m) ≡ Accepted
-  unfolding station-after
-  its-telling i m h l =
-      let r = after-round (setup R i) (R .value) (column (R .n) (log R) i) m in
-      telling-accepts (station-after R i m) (its-sound i m h (omega arith)) (omega arith)
-
-  its-ballot : (i m : ℕ) → i < R .n → m < rounds (R .t)
-      → ballot-or-silence (station-after R i m) ≡ ballot (setup R i) (after (setup R i) (R .value) (column (R .n) (log R) i) m)
-  unfolding ballot-or-silence station-after setup
-  its-ballot i m h l = let e : i + 1 - 1 ≡ i = omega arith in rw (its-telling i m h l, e)
-
-  -- ---- what it takes
-
-  its-taking : (i m : ℕ) → i < R .n → m < rounds (R .t)
-      → judgement.taking-verdict (station-after R i m) (length (column (R .n) (log R) i (suc m))) ≡ Accepted
-  unfolding station-after column
-  its-taking i m h l =
-      let r = after-round (setup R i) (R .value) (column (R .n) (log R) i) m in
-      taking-accepts (station-after R i m) (column (R .n) (log R) i (suc m))
-      (record { sound = its-sound i m h (omega arith); round-left = omega arith; whole = length-tabulate (R .n) _ })
-
-  its-step : (i m : ℕ) → i < R .n → m < rounds (R .t)
-      → advanced-or-same (station-after R i m) (column (R .n) (log R) i (suc m)) ≡ station-after R i (suc m)
-  unfolding advanced-or-same station-after setup after column
-  its-step i m h l =
-      let e : i + 1 - 1 ≡ i = omega arith in
-      rw (its-taking i m h l, e)
-
-  -- ---- what is posted in round m + 1 is what is sent in it
 
   follows : (i : ℕ) → i < R .n → marked (R .marks) i ≡ false → Follows R i (R .value)
   follows i h g =
@@ -102,6 +50,8 @@ module _ (R : Run) (bytes₀ : List ℕ) (ready : Playable R bytes₀) where
   together : PutTogether R (λ _. R .value) (log R)
   together =
       stations-make-run R (header .fits) (header .sender-low) (header .sender-high) (λ _. R .value) refl .log-is-such
+
+  -- ---- places
 
   -- the place of a ballot of round m + 1
   place-is : (m i j : ℕ) → place (R .n) (suc m) i j ≡ m * (R .n * R .n) + i * R .n + j
@@ -116,60 +66,7 @@ module _ (R : Run) (bytes₀ : List ℕ) (ready : Playable R bytes₀) where
   at-place : (l : List ℕ) (m i j : ℕ) → at l (place (R .n) (suc m) i j) ≡ getD l (m * (R .n * R .n) + i * R .n + j) 0
   at-place l m i j = at-is l _ _ (place-is m i j)
 
-  module _ (m : ℕ) (left : m < rounds (R .t)) (stations : List Station) (bytes : List ℕ) (P : Played R m stations bytes) where
-    posted-is : (i j : ℕ) → i < R .n → j < R .n
-        → ballot-of stations (R .table) (R .marks) (m * (R .n * R .n)) (R .n) i j ≡ at (log R) (place (R .n) (suc m) i j)
-    unfolding ballot-of posted-byte either
-    posted-is i j hi hj = go (marked (R .marks) i) refl
-      where
-        go : (b : Bool) → marked (R .marks) i ≡ b
-            → (if b then getD (R .table) (m * (R .n * R .n) + i * R .n + j) 0 else ballot-or-silence (getD stations i no-station))
-            ≡ at (log R) (place (R .n) (suc m) i j)
-        go true e = sym (together .from-marked (suc m) i j (omega arith) left hi hj e ∙ at-place (R .table) m i j)
-        go false e =
-            ap ballot-or-silence (P .stations-are i hi e)
-            ∙ its-ballot i m hi left
-            ∙ follows i hi e .ballots m j left hj
-            ∙ ap (λ (r : ℕ). at (log R) (place (R .n) r i j)) (add-one m)
-
-    -- a station's ballots of the round are its row of the log
-    row-is : (j : ℕ) → j < R .n
-        → tabulate (R .n) (λ i. ballot-of stations (R .table) (R .marks) (m * (R .n * R .n)) (R .n) i j)
-        ≡ column (R .n) (log R) j (suc m)
-    unfolding column
-    row-is j h = tabulate-same (R .n) _ _ (λ i l. posted-is i j l h)
-
-    -- ---- one round more is played
-
-    module _ (bytes′ : List ℕ) (next : List Station)
-        (Q : Round stations (R .table) (R .marks) (m * (R .n * R .n)) (R .n) bytes bytes′ next) where
-      stepped : (j : ℕ) → j < R .n → marked (R .marks) j ≡ false → getD next j no-station ≡ station-after R j (suc m)
-      stepped j h g = Q .steps j h g ∙ rw (row-is j h, P .stations-are j h g) (its-step j m h left)
-
-      -- a byte of the round just played
-      written : (k : ℕ) → k < R .n * R .n → getD bytes′ (m * (R .n * R .n) + k) 0 ≡ getD (log R) (m * (R .n * R .n) + k) 0
-      written k h =
-          let pos : 0 < R .n = omega (arith, header .some) in
-          let i : k / R .n < R .n = div-lt-iff-lt-mul pos .1 h in
-          let j : k % R .n < R .n = mod-lt k pos in
-          let e : m * (R .n * R .n) + k / R .n * R .n + k % R .n ≡ m * (R .n * R .n) + k = omega (arith, div-add-mod' k (R .n)) in
-          rw e at (Q .in-log (k / R .n) (k % R .n) i j ∙ posted-is (k / R .n) (k % R .n) i j ∙ at-place (log R) m (k / R .n) (k % R .n))
-
-      pub round-played : Played R (suc m) next bytes′
-      round-played = record {
-        stations-are = stepped;
-        log-has = λ k h. has k h (le-or-lt (m * (R .n * R .n)) k);
-        log-whole = Q .size ∙ P .log-whole;
-      }
-        where
-          has : (k : ℕ) → k < suc m * (R .n * R .n) → (m * (R .n * R .n) ≤ k) ⊎ (k < m * (R .n * R .n)) → getD bytes′ k 0 ≡ getD (log R) k 0
-          has k h (inr l) = Q .before k l ∙ P .log-has k l
-          has k h (inl l) =
-              let d : m * (R .n * R .n) + (k - m * (R .n * R .n)) ≡ k = omega arith in
-              let b : k - m * (R .n * R .n) < R .n * R .n = omega (arith, suc-mul m (R .n * R .n)) in
-              rw d at (written (k - m * (R .n * R .n)) b)
-
-  -- ---- the round's bytes are within the table and the log
+  -- ---- every round can be played
 
   pub room : (m : ℕ) → m < rounds (R .t) → m * (R .n * R .n) + R .n * R .n ≤ table-length (R .n) (R .t)
   room m h = rw mul-assoc (row-within m (R .n * R .n) (rounds (R .t)) h)
@@ -177,74 +74,141 @@ module _ (R : Run) (bytes₀ : List ℕ) (ready : Playable R bytes₀) where
   pub small : table-length (R .n) (R .t) ≤ 36864
   small = table-bound (R .n) (R .t) (R .T) (header .most) (header .fits)
 
+  -- who speaks alone is of the line
+  speaker-in : (r : ℕ) → 1 ≤ r → r ≤ rounds (R .t) → speaker-within (R .n) (from-0 (R .sender)) (as-part (part r)) ≡ true
+  speaker-in =
+      by-parts (λ (r : ℕ). r ≤ rounds (R .t) → speaker-within (R .n) (from-0 (R .sender)) (as-part (part r)) ≡ true)
+      (λ h. rw part-sender (lt-ltb (from-0 (R .sender)) (R .n) (omega (arith, header .sender-low, header .sender-high))))
+      (λ p h. rw (part-first p))
+      (λ p h. rw (part-second p))
+      (λ p h. rw (part-king p) (lt-ltb p (R .n) (omega (arith, first-is p, header .fits .order, header .fits .room))))
+
+  can-play : (m : ℕ) → m < rounds (R .t) → (bytes : List ℕ) → length bytes ≡ table-length (R .n) (R .t)
+      → playable (R .n) (from-0 (R .sender)) (as-part (part (suc m))) (m * (R .n * R .n)) (length bytes) (length (R .table)) ≡ true
+  can-play m h bytes e =
+      played (R .n) (from-0 (R .sender)) (as-part (part (suc m))) (m * (R .n * R .n)) (length bytes) (length (R .table))
+      (speaker-in (suc m) (omega arith) (omega arith))
+      (round-there (R .n) (m * (R .n * R .n)) (length bytes) (header .most) (omega (arith, room m h)))
+      (round-there (R .n) (m * (R .n * R .n)) (length (R .table)) (header .most) (omega (arith, room m h, ready .table-whole)))
+
+  -- ---- one round more
+
+  module _ (m : ℕ) (left : m < rounds (R .t)) (s : Stations) (bytes : List ℕ) (P : Played R m s bytes) (bytes′ : List ℕ) (s′ : Stations)
+      (Q : Plays (R .n) (R .t) (R .T) (from-0 (R .sender)) (as-part (part (suc m))) s (R .marks) (R .table) (m * (R .n * R .n)) bytes bytes′ s′) where
+    start : ℕ
+    start = m * (R .n * R .n)
+
+    can : playable (R .n) (from-0 (R .sender)) (as-part (part (suc m))) (m * (R .n * R .n)) (length bytes) (length (R .table)) ≡ true
+    can = can-play m left bytes (P .log-whole)
+
+    -- a good station says what the run has from it
+    said-is : (i : ℕ) → i < R .n → marked (R .marks) i ≡ false
+        → said-by (from-0 (R .sender)) (as-part (part (suc m))) s i
+        ≡ ballot (setup R i) (after (setup R i) (R .value) (column (R .n) (log R) i) m)
+    unfolding said-by ballot setup
+    said-is i h g =
+        told-as (from-0 (R .sender)) i (getD (s .value) i 0) (getD (s .z) i 0) (part (suc m))
+        ∙ rw (← add-one m) (ap (ballot (setup R i)) (P .stations-are i h g))
+
+    -- what is in station j's column is what the run has in it
+    column-sent : (i j : ℕ) → i < R .n → j < R .n
+        → columns.column bytes′ (m * (R .n * R .n)) (R .n) j i ≡ at (log R) (place (R .n) (suc m) i j)
+    column-sent i j hi hj =
+        column-is (R .n) (R .t) (R .T) (from-0 (R .sender)) (as-part (part (suc m))) s (R .marks) (R .table) (m * (R .n * R .n)) bytes bytes′ s′ can Q i j hi hj
+        ∙ go (marked (R .marks) i) refl
+      where
+        go : (b : Bool) → marked (R .marks) i ≡ b
+            → (if b then getD (R .table) (m * (R .n * R .n) + i * R .n + j) 0 else said-by (from-0 (R .sender)) (as-part (part (suc m))) s i)
+            ≡ at (log R) (place (R .n) (suc m) i j)
+        go true e = sym (together .from-marked (suc m) i j (omega arith) left hi hj e ∙ at-place (R .table) m i j)
+        go false e =
+            said-is i hi e
+            ∙ follows i hi e .ballots m j left hj
+            ∙ ap (λ (r : ℕ). at (log R) (place (R .n) r i j)) (add-one m)
+
+    -- a station's column is its row of the run
+    row-is : (j : ℕ) → j < R .n → (i : ℕ) → i < R .n
+        → columns.column bytes′ (m * (R .n * R .n)) (R .n) j i ≡ at (column (R .n) (log R) j (suc m)) i
+    unfolding column
+    row-is j h i l = column-sent i j l h ∙ sym (at-tabulate (R .n) _ i l)
+
+    stepped : (j : ℕ) → j < R .n → marked (R .marks) j ≡ false
+        → state-at s′ (suc m + 1) j ≡ after (setup R j) (R .value) (column (R .n) (log R) j) (suc m)
+    unfolding Taken advance after setup
+    stepped j h g =
+        let c = setup-at (R .n) (R .t) (R .T) (from-0 (R .sender)) j in
+        let row = columns.column bytes′ (m * (R .n * R .n)) (R .n) j in
+        let row′ = at (column (R .n) (log R) j (suc m)) in
+        Q .takes can (suc m) j h
+        ∙ taken-as c (state-at s (suc m) j) row (part (suc m))
+        ∙ taken-same c (state-at s (suc m) j) row row′ (λ i l. row-is j h i l) (part (suc m)) (speaker-in (suc m) (omega arith) (omega arith))
+        ∙ ap (λ (st : State). advance c st row′) (rw (add-one m) at (P .stations-are j h g))
+
+    -- a byte of the round just played
+    written : (k : ℕ) → k < R .n * R .n → getD bytes′ (m * (R .n * R .n) + k) 0 ≡ getD (log R) (m * (R .n * R .n) + k) 0
+    unfolding columns.column
+    written k h =
+        let pos : 0 < R .n = omega (arith, header .some) in
+        let i : k / R .n < R .n = div-lt-iff-lt-mul pos .1 h in
+        let j : k % R .n < R .n = mod-lt k pos in
+        let e : m * (R .n * R .n) + k / R .n * R .n + k % R .n ≡ m * (R .n * R .n) + k = omega (arith, div-add-mod' k (R .n)) in
+        rw e at (column-sent (k / R .n) (k % R .n) i j ∙ at-place (log R) m (k / R .n) (k % R .n))
+
+    pub round-played : Played R (suc m) s′ bytes′
+    round-played = record {
+      stations-are = stepped;
+      log-has = λ k h. has k h (le-or-lt (m * (R .n * R .n)) k);
+      log-whole = log-size (R .n) (R .t) (R .T) (from-0 (R .sender)) (as-part (part (suc m))) s (R .marks) (R .table) (m * (R .n * R .n)) bytes bytes′ s′ can Q ∙ P .log-whole;
+    }
+      where
+        has : (k : ℕ) → k < suc m * (R .n * R .n) → (m * (R .n * R .n) ≤ k) ⊎ (k < m * (R .n * R .n)) → getD bytes′ k 0 ≡ getD (log R) k 0
+        has k h (inr l) =
+            log-before (R .n) (R .t) (R .T) (from-0 (R .sender)) (as-part (part (suc m))) s (R .marks) (R .table) (m * (R .n * R .n)) bytes bytes′ s′ can Q k l
+            ∙ P .log-has k l
+        has k h (inl l) =
+            let d : m * (R .n * R .n) + (k - m * (R .n * R .n)) ≡ k = omega arith in
+            let b : k - m * (R .n * R .n) < R .n * R .n = omega (arith, suc-mul m (R .n * R .n)) in
+            rw d at (written (k - m * (R .n * R .n)) b)
+
   -- ---- before the first round
 
-  pub opened-played : (stations : List Station) → Opened-all (R .n) (R .t) (R .T) (R .sender) (R .value) (R .n) stations
-      → Played R 0 stations bytes₀
-  unfolding Opened-all opened-station station-after after
-  opened-played stations h = record {
-    stations-are = λ i l g. h i l;
+  pub opened-played : Played R 0 (record { value = replicate 32 (R .value); z = replicate 32 2; grade = replicate 32 0 }) bytes₀
+  unfolding after opened
+  opened-played = record {
+    stations-are = λ i h g.
+        let b : i < 32 = omega (arith, header .most) in
+        rw (getD-replicate 32 i (R .value) 0 b, getD-replicate {A = ℕ} 32 i 2 0 b, getD-replicate {A = ℕ} 32 i 0 0 b);
     log-has = λ k l. absurd (omega (arith, zero-mul (R .n * R .n)));
     log-whole = ready .log-whole;
   }
 
   -- ---- after the last round
 
-  module _ (stations : List Station) (bytes : List ℕ) (P : Played R (rounds (R .t)) stations bytes) where
+  module _ (s : Stations) (bytes : List ℕ) (P : Played R (rounds (R .t)) s bytes) where
     pub log-made : bytes ≡ log R
     log-made =
         ext-getD 0 bytes (log R) (P .log-whole ∙ sym (log-bytes R .size))
         (λ k h. P .log-has k (rw (P .log-whole, mul-assoc (rounds (R .t)) (R .n) (R .n)) at h))
 
     -- a good station is done with its bytes of the outcomes
-    done-station : (i : ℕ) → i < R .n → marked (R .marks) i ≡ false
-        → result-by (judgement.station-verdict (station-after R i (rounds (R .t)))) (result-of (station-after R i (rounds (R .t))))
-        ≡ Done (value-at (outcomes R) i) (grade-at (outcomes R) i) (flag-at (outcomes R) i)
-    unfolding result-of station-after setup
-    done-station i h g =
-        let e : i + 1 - 1 ≡ i = omega arith in
-        let d = follows i h g .done-after in
-        rw (sound-accepts (station-after R i (rounds (R .t))) (its-sound i (rounds (R .t)) h (omega arith)), e, d)
+    its-done : (i : ℕ) → Good (R .n) (marked (R .marks)) i
+        → (getD (s .value) i 0 ≡ value-at (outcomes R) i) × (getD (s .grade) i 0 ≡ grade-at (outcomes R) i)
+    its-done i h =
+        let e = P .stations-are i (h .0) (h .1) in
+        let d = done-after-rows (setup R i) (R .value) (column (R .n) (log R) i) .done-after in
+        let q = same-done d (follows i (h .0) (h .1) .done-after) in
+        (ap (λ (st : State). st .value) e ∙ q .0, ap (λ (st : State). st .grade) e ∙ q .1)
 
-    -- the d-th of its three bytes
-    picked : (i d : ℕ) → d < 3 → pick d (value-at (outcomes R) i) (grade-at (outcomes R) i) (flag-at (outcomes R) i) ≡ at (outcomes R) (3 * i + d)
-    unfolding pick
-    picked i zero l = let z : 3 * i + 0 ≡ 3 * i = omega arith in rw z
-    picked i (suc zero) l = refl
-    picked i (suc (suc zero)) l = refl
-    picked i (suc (suc (suc d))) l = absurd (omega arith)
+    value-is : (i : ℕ) → Good (R .n) (marked (R .marks)) i → getD (s .value) i 0 ≡ value-of (setting-of R) (from-0 (R .sender)) (R .value) i
+    unfolding outcomes setting
+    value-is i h = its-done i h .0 ∙ good-value (setting-of R) _ _ _ i h
 
-    -- byte d of station i
-    byte-is : (i d : ℕ) → i < R .n → d < 3
-        → station-byte (getD stations i no-station) (marked (R .marks) i) d ≡ at (outcomes R) (3 * i + d)
-    unfolding station-byte
-    byte-is i d h l = go (marked (R .marks) i) refl
-      where
-        s : Station
-        s = getD stations i no-station
+    grade-is : (i : ℕ) → Good (R .n) (marked (R .marks)) i → getD (s .grade) i 0 ≡ final-grade (setting-of R) (from-0 (R .sender)) (R .value) i
+    unfolding outcomes setting
+    grade-is i h = its-done i h .1 ∙ good-grade (setting-of R) _ _ _ i h
 
-        bad-byte : (d : ℕ) → d < 3 → marked (R .marks) i ≡ true → _≡_ {A = ℕ} 255 (at (outcomes R) (3 * i + d))
-        bad-byte zero l e = let z : 3 * i + 0 ≡ 3 * i = omega arith in rw z (sym (outcome-bytes R .marked-value i h e))
-        bad-byte (suc zero) l e = sym (outcome-bytes R .marked-grade i h e)
-        bad-byte (suc (suc zero)) l e = sym (outcome-bytes R .marked-flag i h e)
-        bad-byte (suc (suc (suc d))) l e = absurd (omega arith)
-
-        go : (b : Bool) → marked (R .marks) i ≡ b
-            → (if b then 255 else result-byte (result-by (judgement.station-verdict s) (result-of s)) d) ≡ at (outcomes R) (3 * i + d)
-        go true e = bad-byte d l e
-        go false e = rw (P .stations-are i h e, done-station i h e) (picked i d l)
-
-    pub outcomes-made : (l : List ℕ) → length l ≡ outcomes-length (R .n) → over l 0 (length l) (outcome-at stations (R .marks)) ≡ outcomes R
-    unfolding outcome-at
+    pub outcomes-made : (l : List ℕ) → length l ≡ outcomes-length (R .n)
+        → over l 0 (reach (length l)) (outcome-at (s .value) (s .grade) (R .marks)) ≡ outcomes R
+    unfolding outcomes setting final-flag
     outcomes-made l size =
-        ext-getD 0 _ (outcomes R) (over-length l 0 (outcome-at stations (R .marks)) (length l) ∙ size ∙ sym (outcome-bytes R .size)) each
-      where
-        each : (k : ℕ) → k < length (over l 0 (length l) (outcome-at stations (R .marks)))
-            → getD (over l 0 (length l) (outcome-at stations (R .marks))) k 0 ≡ getD (outcomes R) k 0
-        each k h =
-            let b : k < length l = rw (over-length l 0 (outcome-at stations (R .marks)) (length l)) at h in
-            let z : 0 + k ≡ k = omega arith in
-            let d : 3 * (k / 3) + k % 3 ≡ k = omega arith in
-            (rw z at (over-at l 0 (outcome-at stations (R .marks)) (length l) k b (omega arith)))
-            ∙ byte-is (k / 3) (k % 3) (omega arith) (omega arith)
-            ∙ at-is (outcomes R) _ k d
+        outcome.outcomes-made (setting-of R) (R .marks) (s .value) (s .grade) (header .most) (λ i. refl) _ _ _ (λ i h. (value-is i h, grade-is i h, refl)) l size

@@ -1,15 +1,14 @@
-// The rehearsal of a whole broadcast: the single stations of crate station, put together with the table's bytes for the bad ones.
+// The rehearsal of a whole broadcast: the line's rounds one after the other, and the outcomes. That this is what single stations make of it, put together with the
+// bad ones' bytes, is demand 2 of its promise.
 ghost use mathlib.Core.Path.{_≡_};
 ghost use Rattle.rehearsal.specs.Promise.{run-of, rehearsal-verdict, Rehearsed};
-ghost use Rattle.rehearsal.specs.Loops.{Playable, Ran};
+ghost use Rattle.rehearsal.specs.Rounds.{Playable, Played, Ran};
 ghost use lib.ListN.{length};
-ghost use Rattle.line.specs.Line.{outcomes-length};
+ghost use Rattle.line.specs.Line.{rounds, outcomes-length};
 use line::Line;
 use refusal::cause::Verdict;
 use refusal::header;
-
-mod play;
-mod post;
+use round::Stations;
 
 // Causes 2 to 6 and 8, the lowest first.
 fn judge(
@@ -30,7 +29,38 @@ fn judge(
     a.or_else(b.or_else(c.or_else(d)))
 }
 
-// Runs the line from its first round to its last, and writes the log and the outcomes.
+// All rounds, from the first to the last: the stations after it. All are opened with the value, which matters only at the sender.
+fn all_rounds(
+    line: Line,
+    sender: u8,
+    value: u8,
+    marks: u32,
+    table: &[u8],
+    log: &mut [u8],
+) -> Stations
+    requires { ⌜ Playable (run-of (line .n) (line .t) (line .upper) sender value marks (now table)) (now log) ⌝ }
+    ensures { λ r. ⌜ Played (run-of (line .n) (line .t) (line .upper) sender value marks (now (table .entry))) (rounds (line .t)) r (now (log .exit)) ⌝ }
+{
+    let n = line.n as usize;
+    let size = n * n;
+    let last = line.rounds() as u8;
+    let value = [value; 32];
+    let z = [Line::BLANK; 32];
+    let grade = [0u8; 32];
+    let mut stations = Stations { value, z, grade };
+    let mut r: u8 = 0;
+    let mut start: usize = 0;
+    while r < last {
+        let part = step::part_of(r + 1);
+        let next = round::play(line, sender - 1, part, stations, marks, table, log, start);
+        stations = next;
+        start += size;
+        r += 1;
+    }
+    stations
+}
+
+// Runs the line, and writes the log and the outcomes.
 fn run(
     line: Line,
     sender: u8,
@@ -43,8 +73,10 @@ fn run(
     requires { ⌜ (Playable (run-of (line .n) (line .t) (line .upper) sender value marks (now table)) (now log)) × (length (now outcomes) ≡ outcomes-length (line .n)) ⌝ }
     ensures { λ _. ⌜ Ran (run-of (line .n) (line .t) (line .upper) sender value marks (now (table .entry))) (now (log .exit)) (now (outcomes .exit)) ⌝ }
 {
-    let done = play::all_rounds(line.n, line.t, line.upper, sender, value, marks, table, log);
-    play::write_outcomes(done, marks, outcomes);
+    let done = all_rounds(line, sender, value, marks, table, log);
+    let value = done.value;
+    let grade = done.grade;
+    outcome::write(value, grade, marks, outcomes);
 }
 
 // The rehearsal of a broadcast by the sender, on a line whose marked stations send what the table has.

@@ -4,7 +4,7 @@ use mathlib.Core.Path.{_≡_, refl, sym, ap, _∙_}
 use mathlib.Core.Bool.{Bool, true, false, _&&_, true≢false}
 use mathlib.Core.List.{List}
 use native.Mathlib.Omega.{arith}
-use borrow.Author.Tests.{ne-eqb}
+use borrow.Author.Tests.{ltb-true, ne-eqb}
 use lib.ListN.{length, getD}
 use Rattle.line.specs.Count.{if_then_else_}
 use Rattle.line.specs.Line.{in-array, has-round}
@@ -16,6 +16,10 @@ use Rattle.column.proofs.ColumnLaws.{count-there}
 use Rattle.line.specs.Writing.{Each}
 use Rattle.broadcast.specs.Bytes.{tabulate}
 use Rattle.broadcast.proofs.BytesLaws.{getD-tabulate}
+use Rattle.broadcast.specs.Broadcast as broadcast
+use Rattle.broadcast.specs.Station.{Setup, State, taken}
+use Rattle.broadcast.proofs.RowLaws.{seconds-same, z-same, y-same}
+use Rattle.step.specs.Part.{as-part}
 use Rattle.step.specs.declared.Part.{Part}
 use Rattle.post.specs.Posted.{posted}
 use Rattle.line.specs.Marks.{marked}
@@ -63,6 +67,17 @@ module _ (n start : ℕ) (log : List ℕ) (room : has-round n start (length log)
         → grade-of n t T (for-y zeros ones) ≡ grade-of n t T (seconds n (y-of n (column log start n j)) (column log start n j))
     grade-made t T =
         rw (a, b, seconds-are 0 (omega arith), seconds-are 1 (omega arith)) (ap (grade-of n t T) (for-y-is n (column log start n j)))
+
+-- ---- a station looks at no more of a row than its n bytes
+
+pub taken-same : (c : Setup) (s : State) (row row′ : Row) → ((k : ℕ) → k < c .n → row k ≡ row′ k)
+    → (p : broadcast.Part) → speaker-within (c .n) (c .sender-from-0) (as-part p) ≡ true → taken c s row p ≡ taken c s row′ p
+unfolding taken
+taken-same c s row row′ same broadcast.from-sender h = rw (same (c .sender-from-0) (ltb-true (c .sender-from-0) (c .n) h))
+taken-same c s row row′ same (broadcast.first-of p) h = rw (z-same (c .n) row row′ same (c .T) (s .value))
+taken-same c s row row′ same (broadcast.second-of p) h =
+    rw (y-same (c .n) row row′ same, seconds-same (c .n) row row′ same (y-of (c .n) row′))
+taken-same c s row row′ same (broadcast.from-king p) h = rw (same p (ltb-true p (c .n) h))
 
 -- ---- a round that is played, and one that isn't
 
