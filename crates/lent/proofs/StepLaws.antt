@@ -10,11 +10,10 @@ use Rattle.station.specs.declared.Station.{Station}
 use Rattle.station.specs.declared.Advanced.{Advanced}
 use Rattle.station.specs.declared.Advanced.the-variants as advanced
 use Rattle.station.specs.Judgement.{taking-verdict}
-use Rattle.station.specs.Automaton.{moved-if, advanced-or-same}
 use Rattle.station.specs.Answers.{advanced-by, Advances}
 use Rattle.lent.specs.declared.Taken.{Taken}
 use Rattle.lent.specs.declared.Taken.the-variants.{Next, Refused}
-use Rattle.lent.specs.Lent.{taken-by, taken, AdvancesLent}
+use Rattle.lent.specs.Lent.{moved-if, advanced-or-same, taken-by, taken, AdvancesLent}
 
 -- ---- the step, by what the call by value answers
 

@@ -1,17 +1,24 @@
 -- A station that is not refused is as document 01 wants it. Assumes nothing.
-use Prim.Native.Nat.{ℕ, zero, suc, _+_, _-_, _/_, _%_, _≤_, _<_}
-use mathlib.Core.Path.{_≡_, refl}
+use Prim.Native.Nat.{ℕ, _+_, _-_, _/_, _%_, _≤_, _<_}
+use mathlib.Core.Path.{_≡_, refl, ap}
+use mathlib.Core.Bool.{Bool, true, false}
 use mathlib.Core.List.{List}
 use mathlib.Core.Logic.{_⊎_, inl, inr}
 use native.Mathlib.Omega.{arith}
+use lib.Dec.{eqb}
 use lib.ListN.{length}
 use borrow.Author.Tests.{ltb-false, eqb-false, le-ltb, ne-eqb}
+use Rattle.line.specs.Count.{if_then_else_}
 use Rattle.line.specs.Line.{rounds}
 use Rattle.refusal.specs.Header.{station-number}
 use Rattle.refusal.specs.declared.cause.Verdict.the-variants.{Accepted}
 use Rattle.line.proofs.CountLaws.{le-or-lt}
 use Rattle.refusal.specs.Header as header
 use Rattle.refusal.proofs.HeaderLaws.{both-accepted, accepted-false, refused-false, neither, inside, inside-not, line-sound, line-accepts, length-exact, number-accepts, bit-accepts, length-accepts}
+use Rattle.broadcast.specs.Broadcast.{from-sender, first-of, second-of, from-king, part}
+use Rattle.step.specs.declared.Part.{Part}
+use Rattle.step.specs.declared.Part.the-variants.{Sender, First, Second, King}
+use Rattle.step.specs.Part.{as-part}
 use Rattle.station.specs.declared.Station.{Station}
 use Rattle.station.specs.Judgement.{foreign-state, is-done, state-verdict, station-verdict, telling-verdict, taking-verdict, opening-verdict, Sound, Ready}
 
@@ -87,28 +94,26 @@ unfolding opening-verdict
 opening-accepts n t T sender own value marks h a b =
     rw (line-accepts n t T (h .most) (h .fits), number-accepts n sender (h .sender-low) (h .sender-high), number-accepts n own a b, bit-accepts value (h .value-bit))
 
--- ---- small facts
+-- ---- a king's round has one of the t + 1 kings, who is a station
 
-pub positive : (g : ℕ) → (g ≡ 0 → ⊥) → 1 ≤ g
-positive zero ne = absurd (ne refl)
-positive (suc g) ne = omega arith
+abbrev king-or-0 : Part → ℕ
+king-or-0 Sender = 0
+king-or-0 First = 0
+king-or-0 Second = 0
+king-or-0 (King k) = k
 
--- ---- a king's round, by the tests that failed
-
-pub king-turn : (r : ℕ) → (r % 3 ≡ 2 → ⊥) → (r % 3 ≡ 0 → ⊥) → r % 3 ≡ 1
-king-turn r two none = go (r % 3) refl
+king-high : (r t : ℕ) → r ≤ rounds t → king-or-0 (as-part (part r)) ≤ t
+unfolding part
+king-high r t h = go (eqb r 1) (eqb (r % 3) 2) (eqb (r % 3) 0) refl refl
   where
-    go : (d : ℕ) → r % 3 ≡ d → r % 3 ≡ 1
-    go zero q = absurd (none q)
-    go (suc zero) q = q
-    go (suc (suc zero)) q = absurd (two q)
-    go (suc (suc (suc d))) q = absurd (omega arith)
+    go : (a b d : Bool) → eqb (r % 3) 2 ≡ b → eqb (r % 3) 0 ≡ d
+        → king-or-0 (as-part (if a then from-sender else (if b then first-of (r / 3) else (if d then second-of (r / 3 - 1) else from-king (r / 3 - 1)))))
+        ≤ t
+    go true b d p q = omega arith
+    go false true d p q = omega arith
+    go false false true p q = omega arith
+    go false false false p q = omega (arith, eqb-false (r % 3) 2 p, eqb-false (r % 3) 0 q)
 
-pub king-late : (r : ℕ) → 1 ≤ r → (r ≡ 1 → ⊥) → r % 3 ≡ 1 → 2 < r
-king-late zero a one q = absurd (omega arith)
-king-late (suc zero) a one q = absurd (one refl)
-king-late (suc (suc r)) a one q = omega arith
-
--- the station that is the king counted from 0 has the king's number
-pub king-number : (r own : ℕ) → 1 ≤ own → 1 ≤ r → (r ≡ 1 → ⊥) → (r % 3 ≡ 2 → ⊥) → (r % 3 ≡ 0 → ⊥) → own - 1 ≡ r / 3 - 1 → own ≡ r / 3
-king-number r own a b one two none e = omega (arith, king-late r b one (king-turn r two none))
+pub king-within : (s : Station) (row : List ℕ) (k : ℕ) → Ready s row → King k ≡ as-part (part (s .round)) → k < s .n
+king-within s row k h e =
+    omega (arith, ap king-or-0 e, king-high (s .round) (s .t) (h .round-left), h .sound .fits .order, h .sound .fits .room)

@@ -1,17 +1,11 @@
 -- The station's struct as the automaton of crate broadcast: what stays (Setup) and what changes (State). The struct numbers stations from 1, the
 -- automaton from 0.
 use Prim.Native.Nat.{ℕ}
-use mathlib.Core.List.{List}
-use lib.ListN.{length}
 use Rattle.line.specs.Line.{from-0}
-use Rattle.line.specs.Ballot.{silence}
-use Rattle.refusal.specs.declared.cause.Verdict.{Verdict}
-use Rattle.refusal.specs.declared.cause.Verdict.the-variants.{Accepted, Refused}
-use Rattle.broadcast.specs.Station.{Setup, State, opened, ballot, advance, Result, running, done, result, at}
+use Rattle.broadcast.specs.Station.{Setup, State, opened, Result, running, done, result}
 use Rattle.station.specs.declared.Station.{Station}
 use Rattle.station.specs.declared.StationResult.{StationResult}
 use Rattle.station.specs.declared.StationResult.the-variants.{Running, Done}
-use Rattle.station.specs.Judgement.{telling-verdict, taking-verdict}
 
 abbrev pub setup-of : Station → Setup
 setup-of s =
@@ -58,20 +52,3 @@ as-result (done v g f) = Done v g f
 
 unfoldable pub result-of : Station → StationResult
 result-of s = as-result (result (setup-of s) (state-of s))
-
--- the ballot, silence where it is refused
-abbrev pub spoken-if : Verdict → ℕ → ℕ
-spoken-if Accepted b = b
-spoken-if (Refused c) b = silence
-
-unfoldable pub ballot-or-silence : Station → ℕ
-ballot-or-silence s = spoken-if (telling-verdict s) (ballot (setup-of s) (state-of s))
-
--- the station after a row, the same where it is refused
-abbrev pub moved-if : Verdict → Station → Station → Station
-moved-if Accepted new old = new
-moved-if (Refused c) new old = old
-
-unfoldable pub advanced-or-same : Station → List ℕ → Station
-advanced-or-same s row =
-    moved-if (taking-verdict s (length row)) (in-state s (advance (setup-of s) (state-of s) (at row))) s

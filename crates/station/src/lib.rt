@@ -3,13 +3,12 @@ ghost use mathlib.Core.Path.{_≡_};
 ghost use Prim.Native.Nat.{ℕ, _+_, _-_, _/_, _≤_, _<_};
 ghost use lib.ListN.{length};
 ghost use Rattle.station.specs.Answers.{Opens, Tells, Advances, Results};
-ghost use Rattle.station.specs.Automaton.{ballot-or-silence, advanced-or-same};
-use line::Line;
 use refusal::cause::Cause;
 use refusal::cause::Verdict;
 
+mod act;
 mod judge;
-mod step;
+mod tally;
 
 // What a station is opened with, and its state. Stations are numbered from 1. Any bytes may stand in it: each call judges them.
 #[repr(C)]
@@ -56,7 +55,7 @@ pub fn open(n: u8, t: u8, upper: u8, sender: u8, own: u8, value: u8) -> Opened
 {
     let verdict = judge::opening(n, t, upper, sender, own, value);
     match verdict {
-        Verdict::Accepted => Opened::Ready(step::opened(n, t, upper, sender, own, value)),
+        Verdict::Accepted => Opened::Ready(act::opened(n, t, upper, sender, own, value)),
         Verdict::Refused(c) => Opened::Refused(c),
     }
 }
@@ -67,7 +66,7 @@ pub fn ballot(s: Station) -> Told
 {
     let verdict = judge::telling(s);
     match verdict {
-        Verdict::Accepted => Told::Ballot(step::tell(s)),
+        Verdict::Accepted => Told::Ballot(act::tell(s)),
         Verdict::Refused(c) => Told::Refused(c),
     }
 }
@@ -78,7 +77,7 @@ pub fn advance(s: Station, row: &[u8]) -> Advanced
 {
     let verdict = judge::taking(s, row.len());
     match verdict {
-        Verdict::Accepted => Advanced::Next(step::step(s, row)),
+        Verdict::Accepted => Advanced::Next(act::take(s, row)),
         Verdict::Refused(c) => Advanced::Refused(c),
     }
 }
@@ -89,29 +88,7 @@ pub fn result(s: Station) -> StationResult
 {
     let verdict = judge::station(s);
     match verdict {
-        Verdict::Accepted => step::result(s),
+        Verdict::Accepted => act::result(s),
         Verdict::Refused(c) => StationResult::Refused(c),
-    }
-}
-
-// The ballot, or silence where `ballot` refuses.
-pub fn ballot_or_silence(s: Station) -> u8
-    ensures { λ r. ⌜ r ≡ ballot-or-silence s ⌝ }
-{
-    let verdict = judge::telling(s);
-    match verdict {
-        Verdict::Accepted => step::tell(s),
-        Verdict::Refused(_) => Line::SILENCE,
-    }
-}
-
-// The station after the row, or the same station where `advance` refuses.
-pub fn advance_or_stay(s: Station, row: &[u8]) -> Station
-    ensures { λ r. ⌜ r ≡ advanced-or-same s (now (row .entry)) ⌝ }
-{
-    let verdict = judge::taking(s, row.len());
-    match verdict {
-        Verdict::Accepted => step::step(s, row),
-        Verdict::Refused(_) => s,
     }
 }

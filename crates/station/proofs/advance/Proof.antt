@@ -12,14 +12,14 @@ taking-requires c κs = search needs
 enum-told : tie.Need-enum-told
 enum-told c = search needs
 
-step-requires : tie.Need-step-requires
-step-requires c κs = ready _ _ (sym (c .before .before .taking .ensures) ∙ c .enum-told .given .1)
+take-requires : tie.Need-take-requires
+take-requires c κs = ready _ _ (sym (c .before .before .taking .ensures) ∙ c .enum-told .given .1)
 
 enum-known-verdict : tie.Need-enum-known-verdict
 enum-known-verdict c = search needs
 
 returns : tie.Need-returns
-returns c = advances _ _ _ (rw (← c .before .before .before .taking .ensures, c .before .enum-told .given .1, c .step .ensures))
+returns c = advances _ _ _ (rw (← c .before .before .before .taking .ensures, c .before .enum-told .given .1, c .take .ensures))
 
 returns-2 : tie.Need-returns-2
 returns-2 c = advances _ _ _ (rw (← c .before .before .before .taking .ensures, c .before .verdict .given .1))
@@ -27,4 +27,4 @@ returns-2 c = advances _ _ _ (rw (← c .before .before .before .taking .ensures
 pub advance-spec : {M : Type 1} → statement M
 advance-spec =
     tie.close
-    (tie.spec taking-requires enum-told step-requires enum-known-verdict returns returns-2)
+    (tie.spec taking-requires enum-told take-requires enum-known-verdict returns returns-2)

@@ -1,17 +1,19 @@
-// What an accepted station does: the only code that knows what is done in which round.
+// What an accepted station does. The steps are those of crate step.
 ghost use mathlib.Core.Path.{_≡_};
-ghost use Prim.Native.Nat.{ℕ, _+_, _-_, _*_, _/_, _%_, _≤_, _<_};
+ghost use Prim.Native.Nat.{ℕ, _+_, _-_, _*_, _≤_, _<_};
 ghost use lib.ListN.{length};
-ghost use Rattle.broadcast.specs.Broadcast.{obey, from-sender, first-of, second-of, from-king};
 ghost use Rattle.broadcast.specs.Station.{ballot, next, taken, advance, at};
+ghost use Rattle.step.specs.Part.{of-part};
+ghost use Rattle.step.specs.declared.Part.the-variants.{Sender, First, Second, King};
 ghost use Rattle.station.specs.Automaton.{setup-of, state-of, in-state, opened-station, result-of};
 ghost use Rattle.station.specs.Judgement.{Sound, Ready};
 use crate::Station;
 use crate::StationResult;
 use crate::judge;
-use exchange::tally;
+use crate::tally;
 use line::Line;
 use line::ballot;
+use step::Part;
 
 // Before round 1: z is blank and the grade 0 until they are set.
 pub(crate) fn opened(n: u8, t: u8, upper: u8, sender: u8, own: u8, value: u8) -> Station
@@ -35,25 +37,8 @@ pub(crate) fn tell(s: Station) -> u8
     requires { ⌜ Sound s ⌝ }
     ensures { λ r. ⌜ r ≡ ballot (setup-of s) (state-of s) ⌝ }
 {
-    if s.round == 1 {
-        return if s.own == s.sender {
-            s.value
-        } else {
-            Line::SILENCE
-        };
-    }
-    let turn = s.round % 3;
-    if turn == 2 {
-        return s.value;
-    }
-    if turn == 0 {
-        return s.z;
-    }
-    if s.own == s.round / 3 {
-        s.value
-    } else {
-        Line::SILENCE
-    }
+    let part = step::part_of(s.round);
+    step::told(part, s.sender - 1, s.own - 1, s.value, s.z)
 }
 
 // The next round, with these.
@@ -77,7 +62,7 @@ fn next(s: Station, value: u8, z: u8, grade: u8) -> Station
 // Round 1: x is what is read of the sender.
 fn take_sender(s: Station, row: &[u8]) -> Station
     requires { ⌜ Ready s (now row) ⌝ }
-    ensures { λ r. ⌜ r ≡ in-state s (taken (setup-of s) (state-of s) (at (now (row .entry))) from-sender) ⌝ }
+    ensures { λ r. ⌜ r ≡ in-state s (taken (setup-of s) (state-of s) (at (now (row .entry))) (of-part Sender)) ⌝ }
 {
     let from = (s.sender - 1) as usize;
     let x = ballot::read_sender(row[from]);
@@ -87,54 +72,46 @@ fn take_sender(s: Station, row: &[u8]) -> Station
 // The first round of an exchange: z.
 fn take_first(s: Station, row: &[u8]) -> Station
     requires { ⌜ Ready s (now row) ⌝ }
-    ensures { λ r. ⌜ r ≡ in-state s (taken (setup-of s) (state-of s) (at (now (row .entry))) (first-of (s .round / 3))) ⌝ }
+    ensures { λ r. ⌜ r ≡ in-state s (taken (setup-of s) (state-of s) (at (now (row .entry))) (of-part First)) ⌝ }
 {
-    let z = tally::z(row, s.upper, s.value);
+    let count = tally::firsts(row, s.value);
+    let z = step::z(s.n, s.upper, s.value, count);
     next(s, s.value, z, s.grade)
 }
 
 // The second round of an exchange: y and the grade.
 fn take_second(s: Station, row: &[u8]) -> Station
     requires { ⌜ Ready s (now row) ⌝ }
-    ensures { λ r. ⌜ r ≡ in-state s (taken (setup-of s) (state-of s) (at (now (row .entry))) (second-of (s .round / 3 - 1))) ⌝ }
+    ensures { λ r. ⌜ r ≡ in-state s (taken (setup-of s) (state-of s) (at (now (row .entry))) (of-part Second)) ⌝ }
 {
-    let g = tally::y_and_grade(row, s.t, s.upper);
-    next(s, g.y, s.z, g.grade)
-}
-
-// The value after the king's word: the king's ballot at grade 0, otherwise the own y.
-fn obey(grade: u8, y: u8, b: u8) -> u8
-    ensures { λ r. ⌜ r ≡ obey grade y b ⌝ }
-{
-    if grade == 0 { ballot::read_king(b) } else { y }
+    let zeros = tally::seconds(row, 0);
+    let ones = tally::seconds(row, 1);
+    let y = step::y(zeros, ones);
+    let grade = step::grade(s.n, s.t, s.upper, zeros, ones);
+    next(s, y, s.z, grade)
 }
 
 // The king's round.
-fn take_king(s: Station, row: &[u8]) -> Station
-    requires { ⌜ (Ready s (now row)) × (2 < s .round) × (s .round % 3 ≡ 1) ⌝ }
-    ensures { λ r. ⌜ r ≡ in-state s (taken (setup-of s) (state-of s) (at (now (row .entry))) (from-king (s .round / 3 - 1))) ⌝ }
+fn take_king(s: Station, row: &[u8], king: u8) -> Station
+    requires { ⌜ (Ready s (now row)) × (king < s .n) ⌝ }
+    ensures { λ r. ⌜ r ≡ in-state s (taken (setup-of s) (state-of s) (at (now (row .entry))) (of-part (King king))) ⌝ }
 {
-    let king = (s.round / 3 - 1) as usize;
-    let x = obey(s.grade, s.value, row[king]);
+    let x = step::obey(s.grade, s.value, row[king as usize]);
     next(s, x, s.z, s.grade)
 }
 
 // The station after a row.
-pub(crate) fn step(s: Station, row: &[u8]) -> Station
+pub(crate) fn take(s: Station, row: &[u8]) -> Station
     requires { ⌜ Ready s (now row) ⌝ }
     ensures { λ r. ⌜ r ≡ in-state s (advance (setup-of s) (state-of s) (at (now (row .entry)))) ⌝ }
 {
-    if s.round == 1 {
-        return take_sender(s, row);
+    let part = step::part_of(s.round);
+    match part {
+        Part::Sender => take_sender(s, row),
+        Part::First => take_first(s, row),
+        Part::Second => take_second(s, row),
+        Part::King(king) => take_king(s, row, king),
     }
-    let turn = s.round % 3;
-    if turn == 2 {
-        return take_first(s, row);
-    }
-    if turn == 0 {
-        return take_second(s, row);
-    }
-    take_king(s, row)
 }
 
 // The result.
@@ -142,7 +119,7 @@ pub(crate) fn result(s: Station) -> StationResult
     ensures { λ r. ⌜ r ≡ result-of s ⌝ }
 {
     if judge::is_done(s.t, s.round) {
-        let flag = tally::flag(s.grade);
+        let flag = step::flag(s.grade);
         StationResult::Done {
             value: s.value,
             grade: s.grade,

@@ -1,8 +1,8 @@
--- `step::take_sender` meets its contract.
+-- `act::take_sender` meets its contract.
 use borrow.Author.Needs.{needs}
 use Rattle.broadcast.specs.Station.{taken, at}
-use Rattle.station.proofs.step.take_sender.Statement.{statement}
-use Rattle.station.proofs.step.take_sender.Tie as tie
+use Rattle.station.proofs.act.take_sender.Statement.{statement}
+use Rattle.station.proofs.act.take_sender.Tie as tie
 
 sub-from : tie.Need-sub-from
 sub-from c = search needs

@@ -1,9 +1,9 @@
--- `step::opened` meets its contract.
+-- `act::opened` meets its contract.
 use mathlib.Core.Path.{refl}
 use Rattle.broadcast.specs.Station.{opened}
 use Rattle.station.specs.Automaton.{opened-station}
-use Rattle.station.proofs.step.opened.Statement.{statement}
-use Rattle.station.proofs.step.opened.Tie as tie
+use Rattle.station.proofs.act.opened.Statement.{statement}
+use Rattle.station.proofs.act.opened.Tie as tie
 
 returns : tie.Need-returns
 unfolding opened-station opened

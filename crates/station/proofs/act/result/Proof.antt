@@ -1,11 +1,11 @@
--- `step::result` meets its contract: done exactly after R rows.
+-- `act::result` meets its contract: done exactly after R rows.
 use borrow.Author.Needs.{needs}
 use mathlib.Core.Path.{sym, _∙_}
 use Rattle.broadcast.specs.Station.{result}
 use Rattle.station.specs.Automaton.{result-of}
 use Rattle.station.specs.Judgement.{is-done}
-use Rattle.station.proofs.step.result.Statement.{statement}
-use Rattle.station.proofs.step.result.Tie as tie
+use Rattle.station.proofs.act.result.Statement.{statement}
+use Rattle.station.proofs.act.result.Tie as tie
 
 is-done-requires : tie.Need-is-done-requires
 is-done-requires c κs = search needs

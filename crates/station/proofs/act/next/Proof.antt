@@ -1,9 +1,9 @@
--- `step::next` meets its contract.
+-- `act::next` meets its contract.
 use borrow.Author.Needs.{needs}
 use mathlib.Core.Path.{refl}
 use Rattle.broadcast.specs.Station.{next}
-use Rattle.station.proofs.step.next.Statement.{statement}
-use Rattle.station.proofs.step.next.Tie as tie
+use Rattle.station.proofs.act.next.Statement.{statement}
+use Rattle.station.proofs.act.next.Tie as tie
 
 add-t5 : tie.Need-add-t5
 add-t5 c = search needs
