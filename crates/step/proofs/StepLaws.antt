@@ -3,10 +3,6 @@ use Prim.Native.Nat.{ℕ}
 use mathlib.Core.Path.{_≡_, refl}
 use Rattle.broadcast.specs.Exchange.{Row}
 use Rattle.broadcast.specs.Broadcast.{Part, from-sender, first-of, second-of, from-king, speaks}
-<<<<<<< HEAD
-use Rattle.broadcast.specs.Exchange.{Row}
-=======
->>>>>>> 8df6da3 (Crate station calls the steps of crate step, counts its row privately and has no answer for a refused station any more)
 use Rattle.broadcast.specs.Station.{Setup, State, held, told, taken}
 use Rattle.step.specs.Part.{as-part, of-part}
 
