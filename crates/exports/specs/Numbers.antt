@@ -5,7 +5,7 @@ use mathlib.Core.List.{List}
 use Rattle.refusal.specs.Cause.{code}
 use Rattle.refusal.specs.declared.cause.Verdict.{Verdict}
 use Rattle.broadcast.specs.Bytes.{Run}
-use Rattle.exchange.specs.Alone.{Exchanged}
+use Rattle.exchange.specs.Promise.{Exchanged}
 use Rattle.rehearsal.specs.Promise.{Rehearsed}
 use Rattle.sheet.specs.declared.Reading.{Reading}
 use Rattle.sheet.specs.Reading.{reading-number, Reads}

@@ -57,6 +57,6 @@ pub extern "C" fn vembopu_exchange(
 ) -> u8
     ensures { λ r. ⌜ ExchangedNumber n t upper marks (now (inputs .entry)) (now (table .entry)) (now (outcomes .entry)) (now (outcomes .exit)) r ⌝ }
 {
-    let verdict = exchange::alone::exchange(Line { n, t, upper }, marks, inputs, table, outcomes);
+    let verdict = exchange::exchange(Line { n, t, upper }, marks, inputs, table, outcomes);
     verdict.code()
 }

@@ -74,6 +74,9 @@ module _ (R : Run) (bytes₀ : List ℕ) (ready : Playable R bytes₀) where
   pub small : table-length (R .n) (R .t) ≤ 36864
   small = table-bound (R .n) (R .t) (R .T) (header .most) (header .fits)
 
+  pub few-rounds : rounds (R .t) ≤ 36
+  few-rounds = omega (arith, header .most, header .fits .order, header .fits .room)
+
   -- who speaks alone is of the line
   speaker-in : (r : ℕ) → 1 ≤ r → r ≤ rounds (R .t) → speaker-within (R .n) (from-0 (R .sender)) (as-part (part r)) ≡ true
   speaker-in =
@@ -193,6 +196,7 @@ module _ (R : Run) (bytes₀ : List ℕ) (ready : Playable R bytes₀) where
     -- a good station is done with its bytes of the outcomes
     its-done : (i : ℕ) → Good (R .n) (marked (R .marks)) i
         → (getD (s .value) i 0 ≡ value-at (outcomes R) i) × (getD (s .grade) i 0 ≡ grade-at (outcomes R) i)
+    unfolding setup
     its-done i h =
         let e = P .stations-are i (h .0) (h .1) in
         let d = done-after-rows (setup R i) (R .value) (column (R .n) (log R) i) .done-after in
