@@ -15,8 +15,8 @@ use Rattle.sheet.specs.Chain.{is-record, after, reached}
 use Rattle.sheet.specs.Judgement.{ill-formed, sheet-form, line-and-length, verdict-to-8, misplaced, record-form, unmarked-sender, same-place, taken-before, duplicate, record-verdict, records-verdict, sheet-verdict}
 use Rattle.sheet.specs.Reading.{place-of, filled}
 use Rattle.sheet.proofs.ChainLaws.{kind, walk, fate}
-use Rattle.listing.specs.Lines.{station-line, station-lines, verdict, lines}
-use Rattle.listing.specs.Text.{decimal}
+use Rattle.lines.specs.Lines.{station-line, station-lines, verdict, lines}
+use Rattle.text.specs.Decimal.{decimal}
 use Rattle.cases.specs.Table.{All}
 use Rattle.cases.specs.Cases.{cases}
 use Rattle.cases.specs.Further.{further}

@@ -5,8 +5,8 @@ use mathlib.Core.List.{List, [], _∷_}
 use lib.ListN.{length}
 use Rattle.refusal.specs.Cause.{code}
 use Rattle.sheet.specs.Chain.{Fate}
-use Rattle.listing.specs.Lines.{Field, agree, num, dash, verdict, lines}
-use Rattle.listing.specs.Text.{text}
+use Rattle.lines.specs.Lines.{Field, agree, num, dash, verdict, lines}
+use Rattle.lines.specs.Text.{text}
 
 -- what is wanted of a sheet: its listing's lines, or its text byte by byte, or the text's length, or that it is accepted, or the number that it is
 -- refused by

@@ -27,11 +27,13 @@ use Rattle.sheet.specs.Judgement.{verdict-to-8, chain-verdict, sheet-verdict}
 use Rattle.sheet.specs.Reading.{table-of}
 use Rattle.sheet.specs.Loops.{SoundHeader}
 use Rattle.sheet.proofs.PromiseLaws.{opening-sound}
-use Rattle.listing.specs.Lines.{first-line, station-line, station-lines, lines-by, run}
-use Rattle.listing.specs.Text.{digit, decimal, line-text, text}
+use Rattle.text.specs.Decimal.{digit, decimal}
+use Rattle.text.proofs.DecimalLaws.{decimal-one, decimal-two}
+use Rattle.lines.proofs.LineLaws.{bad-shown, good-shown}
+use Rattle.lines.specs.Lines.{first-line, station-line, station-lines, lines-by, run}
+use Rattle.lines.specs.Text.{line-text, text}
 use Rattle.listing.specs.Promise.{listing}
 use Rattle.listing.specs.Theorems.{longest-listing}
-use Rattle.listing.proofs.TextLaws.{decimal-one, decimal-two, bad-shown, good-shown}
 
 -- ---- numbers
 

@@ -2,6 +2,7 @@
 use Prim.Native.Nat.{ℕ, _≤_, min}
 use mathlib.Core.Path.{_≡_, refl, sym, _∙_}
 use mathlib.Core.List.{List, [], _∷_, _++_}
+use native.Mathlib.Nat.{zero-add}
 use native.Mathlib.Omega.{arith}
 use lib.ListN.{length, take, drop, take-append-drop}
 use lib.Seq.{length-take-le}
@@ -21,11 +22,13 @@ use Rattle.sheet.specs.Layout.{header}
 use Rattle.sheet.specs.Judgement.{verdict-to-8, chain-verdict, sheet-verdict}
 use Rattle.sheet.specs.Reading.{table-of, reading-by, Reads}
 use Rattle.sheet.proofs.PromiseLaws.{opening-sound, opening-length}
-use Rattle.listing.specs.Lines.{refused, num, lines-by, run}
-use Rattle.listing.specs.Text.{text, laid}
+use Rattle.text.specs.Laid.{laid, Puts}
+use Rattle.text.proofs.LaidLaws.{laid-front, after-within}
+use Rattle.lines.specs.Lines.{refused, num, lines-by, run}
+use Rattle.lines.specs.Text.{text}
 use Rattle.listing.specs.Promise.{wanted, front, listing, Lists}
-use Rattle.listing.specs.Loops.{Puts, Readable, Runs, ListsWhole}
-use Rattle.listing.proofs.TextLaws.{laid-front}
+use Rattle.listing.specs.Loops.{Readable, Runs, ListsWhole}
+use Rattle.listing.proofs.LengthLaws.{listing-short}
 
 or-accepted : (v : Verdict) → v or-else verdict.Accepted ≡ v
 or-accepted verdict.Accepted = refl
@@ -121,7 +124,7 @@ module _ (s table₀ table log₀ bytes text₀ text₁ : List ℕ) (answer a b 
       let v = sheet-verdict s (length (take b table₀)) f in
       record {
         fate = f;
-        answer-is = rw (← front-length) (omega (arith, w .puts .answer-is));
+        answer-is = rw (← front-length) (w .puts .answer-is ∙ after-within 0 _ (omega (arith, listing-short s (length (take b table₀)) f)) ∙ zero-add _);
         text-is = rw (← front-length) (w .puts .text-is);
         table-is = rw (← front-length) (whole-of v (table-of s f) table₀ table b ha (ka ∙ length-take-le b table₀ ha) (w .table-is));
         log-is =

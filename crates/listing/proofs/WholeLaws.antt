@@ -18,11 +18,11 @@ use Rattle.sheet.specs.Layout.{header}
 use Rattle.sheet.specs.Chain.{Fate}
 use Rattle.sheet.specs.Judgement.{sheet-form, line-and-length, verdict-to-8, chain-verdict, sheet-verdict}
 use Rattle.sheet.specs.Loops.{SoundHeader}
-use Rattle.listing.specs.Lines.{verdict, lines}
-use Rattle.listing.specs.Text.{text}
+use Rattle.lines.specs.Lines.{verdict, lines}
+use Rattle.lines.specs.Text.{text}
 use Rattle.listing.specs.Promise.{wanted, front, listing, Lists, Listed}
 use Rattle.listing.specs.Theorems.{Listing-fits}
-use Rattle.listing.proofs.TextLaws.{laid-front, laid-length}
+use Rattle.text.proofs.LaidLaws.{laid-front, laid-length}
 use Rattle.listing.proofs.LengthLaws.{listing-short}
 
 -- what is refused stays refused

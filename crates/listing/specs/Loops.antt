@@ -1,5 +1,5 @@
 -- What the private functions of the listing do: for their contracts, and no part of what the public call promises.
-use Prim.Native.Nat.{ℕ, _+_, _*_, _≤_}
+use Prim.Native.Nat.{ℕ}
 use mathlib.Core.Path.{_≡_}
 use mathlib.Core.List.{List}
 use lib.ListN.{length}
@@ -13,23 +13,10 @@ use Rattle.sheet.specs.Chain.{Fate}
 use Rattle.sheet.specs.Judgement.{sheet-verdict}
 use Rattle.sheet.specs.Reading.{table-of}
 use Rattle.sheet.specs.Loops.{SoundHeader}
-use Rattle.listing.specs.Lines.{lines-by, run}
-use Rattle.listing.specs.Text.{text, laid}
+use Rattle.text.specs.Laid.{Puts}
+use Rattle.lines.specs.Lines.{lines-by, run}
+use Rattle.lines.specs.Text.{text}
 use Rattle.listing.specs.Promise.{listing}
-
--- ---- writing
-
--- bytes are laid into the text from the place `at` on, and the answer is the place after them
-pub record Puts (text₀ text₁ : List ℕ) (at : ℕ) (bytes : List ℕ) (answer : ℕ) : Type 0 where
-  pub text-is : text₁ ≡ laid text₀ at bytes
-  pub answer-is : answer ≡ at + length bytes
-
--- the outcomes of a line that has at most 32 stations
-pub record Shown (h : Header) (bytes : List ℕ) : Type 0 where
-  pub most : h .n ≤ 32
-  pub size : length bytes ≡ 3 * h .n
-
--- ---- running
 
 -- a header that causes 2 to 6 let through, with a table of its line's length
 pub record Readable (h : Header) (table : List ℕ) : Type 0 where

@@ -10,8 +10,9 @@ use Rattle.sheet.specs.Layout.{header}
 use Rattle.sheet.specs.Chain.{Fate}
 use Rattle.sheet.specs.Judgement.{sheet-verdict}
 use Rattle.sheet.specs.Reading.{table-of}
-use Rattle.listing.specs.Lines.{lines-by, run, lines}
-use Rattle.listing.specs.Text.{text, laid}
+use Rattle.text.specs.Laid.{laid}
+use Rattle.lines.specs.Lines.{lines-by, run, lines}
+use Rattle.lines.specs.Text.{text}
 
 -- the table length of the sheet's line; where the sheet has no whole header, that of the bytes there are, and zeros
 abbrev pub wanted : List ℕ → ℕ

@@ -3,7 +3,6 @@ ghost use mathlib.Core.Path.{_≡_};
 ghost use Prim.Native.Nat.{_≤_, min};
 ghost use lib.ListN.{length};
 ghost use Rattle.line.specs.Line.{outcomes-length};
-ghost use Rattle.sheet.specs.Layout.{byte};
 ghost use Rattle.listing.specs.Promise.{wanted, Lists};
 ghost use Rattle.listing.specs.Loops.{Readable, Runs, ListsWhole};
 use line::Line;
@@ -11,22 +10,13 @@ use refusal::cause::Verdict;
 use sheet::Header;
 use sheet::Reading;
 
-mod write;
-
-// The byte at i, 0 past the sheet's end.
-fn byte(sheet: &[u8], i: usize) -> u8
-    ensures { λ r. ⌜ r ≡ byte (now (sheet .entry)) i ⌝ }
-{
-    if i < sheet.len() { sheet[i] } else { 0 }
-}
-
 // The table length of the sheet's line.
 fn wanted(sheet: &[u8]) -> usize
     ensures { λ r. ⌜ r ≡ wanted (now (sheet .entry)) ⌝ }
 {
     let line = Line {
-        n: byte(sheet, 0),
-        t: byte(sheet, 1),
+        n: text::at(sheet, 0),
+        t: text::at(sheet, 1),
         upper: 0,
     };
     line.table_len()
@@ -65,8 +55,8 @@ fn list_outcomes(
         outcomes,
     );
     match verdict {
-        Verdict::Accepted => write::lines(text, header, outcomes),
-        Verdict::Refused(c) => write::refusal(text, c.number()),
+        Verdict::Accepted => lines::of_run(text, header, outcomes),
+        Verdict::Refused(c) => lines::of_refusal(text, c.number()),
     }
 }
 
@@ -89,7 +79,7 @@ fn list_whole(sheet: &[u8], table: &mut [u8], log: &mut [u8], text: &mut [u8]) -
     let reading = sheet::read(sheet, table);
     match reading {
         Reading::Accepted(header) => list_run(header, table, log, text),
-        Reading::Refused(c) => write::refusal(text, c.number()),
+        Reading::Refused(c) => lines::of_refusal(text, c.number()),
     }
 }
 

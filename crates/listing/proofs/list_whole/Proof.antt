@@ -19,8 +19,8 @@ enum-known-reading-2 c = search needs
 number-requires : tie.Need-number-requires
 number-requires c κs = search needs
 
-refusal-requires : tie.Need-refusal-requires
-refusal-requires c κs = search needs
+of-refusal-requires : tie.Need-of-refusal-requires
+of-refusal-requires c κs = search needs
 
 same-length : tie.Need-same-length
 same-length c = search needs
@@ -41,7 +41,7 @@ same-length-5 : tie.Need-same-length-5
 same-length-5 c = search needs
 
 returns-2 : tie.Need-returns-2
-returns-2 c = whole-refused _ _ _ (c .before .before .before .before .before .before .before .before .before .before .read .ensures) _ _ (c .before .before .before .before .before .before .reading2 .given .1) (c .before .before .before .number .ensures) _ _ _ _ (c .before .before .refusal .ensures)
+returns-2 c = whole-refused _ _ _ (c .before .before .before .before .before .before .before .before .before .before .read .ensures) _ _ (c .before .before .before .before .before .before .reading2 .given .1) (c .before .before .before .number .ensures) _ _ _ _ (c .before .before .of-refusal .ensures)
 
 pub list-whole-spec : {M : Type 1} → statement M
 list-whole-spec =
@@ -52,7 +52,7 @@ list-whole-spec =
     list-run-requires
     enum-known-reading-2
     number-requires
-    refusal-requires
+    of-refusal-requires
     same-length
     same-length-2
     same-length-3

@@ -1,0 +1,2 @@
+-- LineLaws are of the lines.
+pub mod LineLaws

@@ -1,0 +1,95 @@
+// The lines of a listing, put at the start of a lent buffer as far as the buffer goes: those of a run, or the one of a refusal.
+ghost use mathlib.Core.Path.{_≡_};
+ghost use mathlib.Core.List.{[], _∷_};
+ghost use Prim.Native.Nat.{_<_};
+ghost use Rattle.refusal.specs.declared.cause.Verdict.the-variants.{Accepted};
+ghost use Rattle.text.specs.Laid.{Puts};
+ghost use Rattle.lines.specs.Lines.{num, dash, refused, first-line, station-line, station-lines, lines-by};
+ghost use Rattle.lines.specs.Text.{line-text, text};
+use line::Line;
+use line::marks;
+use sheet::Header;
+
+// The first line of a listing.
+fn first_line(out: &mut [u8], header: Header) -> usize
+    ensures { λ r. ⌜ Puts (now (out .entry)) (now (out .exit)) 0 (line-text (first-line header)) r ⌝ }
+{
+    let line = Line {
+        n: header.n,
+        t: header.t,
+        upper: header.upper,
+    };
+    let a = text::word(out, 0, b"agree");
+    let b = text::field(out, a, header.n as u64);
+    let c = text::field(out, b, header.t as u64);
+    let d = text::field(out, c, header.upper as u64);
+    let e = text::field(out, d, header.sender as u64);
+    let f = text::field(out, e, line.rounds() as u64);
+    text::byte(out, f, b'\n')
+}
+
+// The line of a bad station.
+fn bad_line(out: &mut [u8], at: usize, i: u8) -> usize
+    ensures { λ r. ⌜ Puts (now (out .entry)) (now (out .exit)) at (line-text (num i ∷ dash ∷ dash ∷ dash ∷ [])) r ⌝ }
+{
+    let a = text::number(out, at, i as u64);
+    text::word(out, a, b" - - -\n")
+}
+
+// The line of a good station with its value, grade and flag.
+fn good_line(out: &mut [u8], at: usize, i: u8, v: u8, g: u8, f: u8) -> usize
+    ensures { λ r. ⌜ Puts (now (out .entry)) (now (out .exit)) at (line-text (num i ∷ num v ∷ num g ∷ num f ∷ [])) r ⌝ }
+{
+    let a = text::number(out, at, i as u64);
+    let b = text::field(out, a, v as u64);
+    let c = text::field(out, b, g as u64);
+    let d = text::field(out, c, f as u64);
+    text::byte(out, d, b'\n')
+}
+
+// The line of the station counted i from 0. What the outcomes lack is shown as 0.
+fn station_line(out: &mut [u8], at: usize, header: Header, outcomes: &[u8], i: u8) -> usize
+    requires { ⌜ i < header .n ⌝ }
+    ensures { λ r. ⌜ Puts (now (out .entry)) (now (out .exit)) at (line-text (station-line header (now (outcomes .entry)) i)) r ⌝ }
+{
+    let number = i + 1;
+    if marks::is_marked(header.marks, i) {
+        return bad_line(out, at, number);
+    }
+    let k = 3 * (i as usize);
+    let v = text::at(outcomes, k);
+    let g = text::at(outcomes, k + 1);
+    let f = text::at(outcomes, k + 2);
+    good_line(out, at, number, v, g, f)
+}
+
+// A line for each station.
+fn station_lines(out: &mut [u8], at: usize, header: Header, outcomes: &[u8]) -> usize
+    ensures { λ r. ⌜ Puts (now (out .entry)) (now (out .exit)) at (text (station-lines header (now (outcomes .entry)) 0 (header .n))) r ⌝ }
+{
+    let n = header.n;
+    let mut place = at;
+    let mut i: u8 = 0;
+    while i < n {
+        place = station_line(out, place, header, outcomes, i);
+        i += 1;
+    }
+    place
+}
+
+// All lines of a run.
+pub fn of_run(out: &mut [u8], header: Header, outcomes: &[u8]) -> usize
+    ensures { λ r. ⌜ Puts (now (out .entry)) (now (out .exit)) 0 (text (lines-by Accepted header (now (outcomes .entry)))) r ⌝ }
+{
+    let a = first_line(out, header);
+    station_lines(out, a, header, outcomes)
+}
+
+// The one line of a refusal.
+pub fn of_refusal(out: &mut [u8], number: u8) -> usize
+    ensures { λ r. ⌜ Puts (now (out .entry)) (now (out .exit)) 0 (text ((refused ∷ num number ∷ []) ∷ [])) r ⌝ }
+{
+    let a = text::word(out, 0, b"refused");
+    let b = text::field(out, a, number as u64);
+    text::byte(out, b, b'\n')
+}
