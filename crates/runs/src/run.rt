@@ -1,8 +1,14 @@
 // One sheet, read and rehearsed.
 use crate::show;
+use libc::STDOUT_FILENO;
 use line::Line;
 use sheet::Header;
 use sheet::Reading;
+
+// The largest table or log, filled with a byte.
+pub(crate) fn largest(b: u8) -> [u8; 36864] {
+    [b; 36864]
+}
 
 // Rehearses what an accepted sheet says.
 fn decide(h: Header, table: &[u8], log: &mut [u8], outcomes: &mut [u8]) {
@@ -12,41 +18,36 @@ fn decide(h: Header, table: &[u8], log: &mut [u8], outcomes: &mut [u8]) {
         upper: h.upper,
     };
     let verdict = rehearsal::rehearse(line, h.sender, h.value, h.marks, table, log, outcomes);
-    show::answer(verdict);
-    show::bytes(outcomes);
-    show::checksums(log, outcomes);
-    show::end();
+    show::rehearsal(verdict, log, outcomes);
 }
 
-// Reads the sheet into the lent table. The outcomes are those of n stations.
-fn read(k: u64, sheet: &[u8], table: &mut [u8], log: &mut [u8], outcomes: &mut [u8]) {
+// Lends a log of the table's length and the outcomes of n stations. A byte that is left as it was shows, being 7.
+fn rehearse(h: Header, table: &[u8], lent: u16) {
+    let mut log = largest(7);
+    let a = io::count(lent as isize, &log);
+    let mut outcomes = [7u8; 96];
+    let b = io::count((3 * (h.n as u16)) as isize, &outcomes);
+    decide(h, table, &mut log[..a], &mut outcomes[..b]);
+}
+
+// Reads the sheet into the lent table, rehearses it if it is accepted, and ends the line.
+fn read(k: u64, sheet: &[u8], lent: u16, table: &mut [u8]) {
     let reading = sheet::read(sheet, table);
-    show::reading(k, reading);
-    show::table(table);
-    let Reading::Accepted(h) = reading else {
-        show::end();
-        return;
-    };
-    let b = io::count((3 * (h.n as u16)) as isize, outcomes);
-    decide(h, table, log, &mut outcomes[..b]);
+    show::reading(k, reading, table);
+    if let Reading::Accepted(h) = reading {
+        rehearse(h, table, lent);
+    }
+    io::write_all(STDOUT_FILENO, b"\n");
 }
 
-// Lends a table of the given length, and a log of the same. One that is longer than the largest is part of another buffer.
-pub(crate) fn run(
-    k: u64,
-    sheet: &[u8],
-    lent: u16,
-    table: &mut [u8],
-    longer: &mut [u8],
-    log: &mut [u8],
-    outcomes: &mut [u8],
-) {
-    let b = io::count(lent as isize, log);
+// Lends a table of the given length. One that is longer than the largest is part of another buffer, of zeros.
+pub(crate) fn lend(k: u64, sheet: &[u8], lent: u16, table: &mut [u8]) {
     if lent <= 36864 {
         let a = io::count(lent as isize, table);
-        read(k, sheet, &mut table[..a], &mut log[..b], outcomes);
+        read(k, sheet, lent, &mut table[..a]);
     } else {
-        let a = io::count(lent as isize, longer);
-        read(k, sheet, &mut longer[..a], &mut log[..b], outcomes);
+        let mut longer = io::large_buffer();
+        let a = io::count(lent as isize, &longer);
+        read(k, sheet, lent, &mut longer[..a]);
     }
 }

@@ -26,8 +26,8 @@ fn header(h: Header) {
     number(h.marks as u64);
 }
 
-// The run's own number, then what the sheet was read as.
-pub(crate) fn reading(k: u64, reading: Reading) {
+// The run's own number, what the sheet was read as, and the checksum of the lent table.
+pub(crate) fn reading(k: u64, reading: Reading, table: &[u8]) {
     io::write_all(STDOUT_FILENO, b"run");
     number(k);
     io::write_all(STDOUT_FILENO, b":");
@@ -35,10 +35,12 @@ pub(crate) fn reading(k: u64, reading: Reading) {
         Reading::Accepted(h) => header(h),
         Reading::Refused(c) => refused(c),
     }
+    io::write_all(STDOUT_FILENO, b"; table");
+    number(checksum(table));
 }
 
-// The rehearsal's answer.
-pub(crate) fn answer(verdict: Verdict) {
+// The rehearsal's answer, the bytes of the outcomes, and the checksums of the log and of the outcomes.
+pub(crate) fn rehearsal(verdict: Verdict, log: &[u8], outcomes: &[u8]) {
     io::write_all(STDOUT_FILENO, b";");
     match verdict {
         Verdict::Accepted => {
@@ -47,17 +49,17 @@ pub(crate) fn answer(verdict: Verdict) {
         Verdict::Refused(c) => refused(c),
     }
     io::write_all(STDOUT_FILENO, b":");
-}
-
-fn byte(b: u8) {
-    number(b as u64);
+    bytes(outcomes);
+    io::write_all(STDOUT_FILENO, b"; sums");
+    number(checksum(log));
+    number(checksum(outcomes));
 }
 
 // Every byte of it.
-pub(crate) fn bytes(list: &[u8]) {
+fn bytes(list: &[u8]) {
     let mut i: usize = 0;
     while i < list.len() {
-        byte(list[i]);
+        number(text::at(list, i) as u64);
         i += 1;
     }
 }
@@ -76,21 +78,4 @@ fn checksum(list: &[u8]) -> u64 {
         i += 1;
     }
     sum
-}
-
-// The checksum of the lent table.
-pub(crate) fn table(table: &[u8]) {
-    io::write_all(STDOUT_FILENO, b"; table");
-    number(checksum(table));
-}
-
-// The checksums of the log and of the outcomes.
-pub(crate) fn checksums(log: &[u8], outcomes: &[u8]) {
-    io::write_all(STDOUT_FILENO, b"; sums");
-    number(checksum(log));
-    number(checksum(outcomes));
-}
-
-pub(crate) fn end() {
-    io::write_all(STDOUT_FILENO, b"\n");
 }

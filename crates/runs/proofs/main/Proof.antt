@@ -1,14 +1,17 @@
--- `input::all` ends.
+-- `main` ends.
 use borrow.Author.Needs.{needs}
 use Prim.Native.Nat.{_-_, _≤_}
-use Rattle.runs.proofs.input.all.Statement.{statement}
-use Rattle.runs.proofs.input.all.Tie as tie
+use Rattle.runs.proofs.main.Statement.{statement}
+use Rattle.runs.proofs.main.Tie as tie
 
 abbrev Inv-loop : tie.InvT-loop
-Inv-loop sheet₀ table₀ longer₀ log₀ outcomes₀ k₀ sheet table longer log outcomes k = k ≤ 1000000
+Inv-loop table₀ k₀ table k = k ≤ 1000000
 
 abbrev μ-loop : tie.MeasureT-loop
-μ-loop sheet₀ table₀ longer₀ log₀ outcomes₀ k₀ sheet table longer log outcomes k = 1000000 - k
+μ-loop table₀ k₀ table k = 1000000 - k
+
+largest-requires : tie.Need-largest-requires Inv-loop μ-loop
+largest-requires c κs = search needs
 
 loop-holds : tie.Need-loop-holds Inv-loop μ-loop
 loop-holds c = search needs
@@ -31,7 +34,17 @@ returns c = search needs
 returns-2 : tie.Need-returns-2 Inv-loop μ-loop
 returns-2 c = search needs
 
-pub all-spec : {M : Type 1} → statement M
-all-spec =
+pub main-spec : {M : Type 1} → statement M
+main-spec =
     tie.close
-    (tie.spec Inv-loop μ-loop loop-holds next-requires add-k loop-less loop-again returns returns-2)
+    (tie.spec
+    Inv-loop
+    μ-loop
+    largest-requires
+    loop-holds
+    next-requires
+    add-k
+    loop-less
+    loop-again
+    returns
+    returns-2)
