@@ -10,15 +10,6 @@ fn two(low: u8, high: u8) -> u16 {
     low as u16 + 256 * (high as u16)
 }
 
-// Takes a sheet that fills its buffer, and runs it. False: the input ends before.
-fn take(k: u64, sheet: &mut [u8], lent: u16, table: &mut [u8]) -> bool {
-    if io::read_full(STDIN_FILENO, sheet) < sheet.len() {
-        return false;
-    }
-    run::lend(k, sheet, lent, table);
-    true
-}
-
 // Takes the next run, its lengths first. False: there is none.
 fn next(k: u64, table: &mut [u8; 36864]) -> bool {
     let mut head = [0u8; 4];
@@ -27,7 +18,7 @@ fn next(k: u64, table: &mut [u8; 36864]) -> bool {
     }
     let mut sheet = io::large_buffer();
     let a = io::count(two(head[0], head[1]) as isize, &sheet);
-    take(k, &mut sheet[..a], two(head[2], head[3]), table)
+    run::take(k, &mut sheet[..a], two(head[2], head[3]), table)
 }
 
 // All runs, numbered from 1. Nothing says that an input ends, so the numbers do, beyond any that is used.

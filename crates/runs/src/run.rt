@@ -1,6 +1,6 @@
 // One sheet, read and rehearsed.
 use crate::show;
-use libc::STDOUT_FILENO;
+use libc::STDIN_FILENO;
 use line::Line;
 use sheet::Header;
 use sheet::Reading;
@@ -18,30 +18,35 @@ fn decide(h: Header, table: &[u8], log: &mut [u8], outcomes: &mut [u8]) {
         upper: h.upper,
     };
     let verdict = rehearsal::rehearse(line, h.sender, h.value, h.marks, table, log, outcomes);
-    show::rehearsal(verdict, log, outcomes);
+    show::rehearsal(verdict.code(), log, outcomes);
 }
 
 // Lends a log of the table's length and the outcomes of n stations. A byte that is left as it was shows, being 7.
-fn rehearse(h: Header, table: &[u8], lent: u16) {
+fn accepted(h: Header, table: &[u8], lent: u16) {
+    show::header(h, table);
     let mut log = largest(7);
     let a = io::count(lent as isize, &log);
-    let mut outcomes = [7u8; 96];
+    let mut outcomes = largest(7);
     let b = io::count((3 * (h.n as u16)) as isize, &outcomes);
     decide(h, table, &mut log[..a], &mut outcomes[..b]);
 }
 
-// Reads the sheet into the lent table, rehearses it if it is accepted, and ends the line.
+// Reads the sheet into the lent table, and rehearses it if it is accepted.
 fn read(k: u64, sheet: &[u8], lent: u16, table: &mut [u8]) {
+    show::name(k);
     let reading = sheet::read(sheet, table);
-    show::reading(k, reading, table);
-    if let Reading::Accepted(h) = reading {
-        rehearse(h, table, lent);
+    match reading {
+        Reading::Accepted(h) => accepted(h, table, lent),
+        Reading::Refused(c) => show::refusal(c.number(), table),
     }
-    io::write_all(STDOUT_FILENO, b"\n");
 }
 
-// Lends a table of the given length. One that is longer than the largest is part of another buffer, of zeros.
-pub(crate) fn lend(k: u64, sheet: &[u8], lent: u16, table: &mut [u8]) {
+// Takes a sheet that fills its buffer, and lends a table of the given length. One that is longer than the largest is part of another buffer, of zeros.
+// False: the input ends before.
+pub(crate) fn take(k: u64, sheet: &mut [u8], lent: u16, table: &mut [u8]) -> bool {
+    if io::read_full(STDIN_FILENO, sheet) < sheet.len() {
+        return false;
+    }
     if lent <= 36864 {
         let a = io::count(lent as isize, table);
         read(k, sheet, lent, &mut table[..a]);
@@ -50,4 +55,5 @@ pub(crate) fn lend(k: u64, sheet: &[u8], lent: u16, table: &mut [u8]) {
         let a = io::count(lent as isize, &longer);
         read(k, sheet, lent, &mut longer[..a]);
     }
+    true
 }
