@@ -10,8 +10,8 @@ Inv-loop table₀ k₀ table k = k ≤ 1000000
 abbrev μ-loop : tie.MeasureT-loop
 μ-loop table₀ k₀ table k = 1000000 - k
 
-largest-requires : tie.Need-largest-requires Inv-loop μ-loop
-largest-requires c κs = search needs
+filled-requires : tie.Need-filled-requires Inv-loop μ-loop
+filled-requires c κs = search needs
 
 loop-holds : tie.Need-loop-holds Inv-loop μ-loop
 loop-holds c = search needs
@@ -40,7 +40,7 @@ main-spec =
     (tie.spec
     Inv-loop
     μ-loop
-    largest-requires
+    filled-requires
     loop-holds
     next-requires
     add-k

@@ -2,8 +2,8 @@
 use borrow.Author.Needs.{needs}
 use Prim.Native.Nat.{_-_, _≤_}
 use lib.ListN.{length}
-use Rattle.runs.proofs.show.bytes.Statement.{statement}
-use Rattle.runs.proofs.show.bytes.Tie as tie
+use Rattle.one_run.proofs.show.bytes.Statement.{statement}
+use Rattle.one_run.proofs.show.bytes.Tie as tie
 
 abbrev Inv-loop : tie.InvT-loop
 Inv-loop list i₀ i = i ≤ length list

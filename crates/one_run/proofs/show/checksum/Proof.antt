@@ -2,8 +2,8 @@
 use borrow.Author.Needs.{needs}
 use Prim.Native.Nat.{_-_, _≤_}
 use lib.ListN.{length}
-use Rattle.runs.proofs.show.checksum.Statement.{statement}
-use Rattle.runs.proofs.show.checksum.Tie as tie
+use Rattle.one_run.proofs.show.checksum.Statement.{statement}
+use Rattle.one_run.proofs.show.checksum.Tie as tie
 
 abbrev Inv-loop : tie.InvT-loop
 Inv-loop list sum₀ i₀ sum i = i ≤ length list

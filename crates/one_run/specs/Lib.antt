@@ -1,0 +1,2 @@
+-- Promise has what is promised of the lent table.
+pub mod Promise
