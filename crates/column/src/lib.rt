@@ -1,6 +1,6 @@
 // What all receivers get in a round: a sender's bytes to all stand side by side in the log, those to one receiver are a column, and all columns are counted at once.
 ghost use mathlib.Core.Path.{_≡_};
-ghost use Prim.Native.Nat.{_+_, _*_, _≤_, _<_};
+ghost use Prim.Native.Nat.{_+_, _-_, _*_, _≤_, _<_};
 ghost use lib.ListN.{length};
 ghost use Rattle.line.specs.Writing.{Each};
 ghost use Rattle.column.specs.Column.{AtMost, byte-to, hit, more, counted, count-of, sent-by};
@@ -18,18 +18,6 @@ fn heard(bytes: &[u8], at: usize, n: usize) -> [u8; 32]
         j += 1;
     }
     row
-}
-
-// A block of 32 bytes that starts with these, where there are so many: those beyond n are of no receiver.
-fn block(bytes: &[u8], at: usize, n: usize) -> [u8; 32]
-    requires { ⌜ (n ≤ 32) × (at + n ≤ length (now bytes)) ⌝ }
-    ensures { λ r. ⌜ Each n r (byte-to (now (bytes .entry)) at) ⌝ }
-{
-    if 32 <= bytes.len() - at {
-        heard(bytes, at, 32)
-    } else {
-        heard(bytes, at, n)
-    }
 }
 
 // 1 where the byte is v.
@@ -51,8 +39,26 @@ fn add_row(counts: &mut [u8; 32], row: &[u8; 32], v: u8)
     }
 }
 
-// How many of a round's bytes to each receiver are v.
-fn count_all(bytes: &[u8], start: usize, n: usize, v: u8) -> [u8; 32]
+// How many of a round's bytes to each receiver are v, where every row has 32 bytes from its start on. Those beyond its n are of no receiver: a block of a fixed
+// length is added at once.
+fn count_wide(bytes: &[u8], start: usize, n: usize, v: u8) -> [u8; 32]
+    requires { ⌜ (n ≤ 32) × (start + n * n + (32 - n) ≤ length (now bytes)) ⌝ }
+    ensures { λ r. ⌜ Each n r (counted (now (bytes .entry)) start n v n) ⌝ }
+{
+    let mut counts = [0u8; 32];
+    let mut i: usize = 0;
+    let mut at = start;
+    while i < n {
+        let row = heard(bytes, at, 32);
+        add_row(&mut counts, &row, v);
+        at += n;
+        i += 1;
+    }
+    counts
+}
+
+// The same where the bytes may end with the round.
+fn count_narrow(bytes: &[u8], start: usize, n: usize, v: u8) -> [u8; 32]
     requires { ⌜ (n ≤ 32) × (start + n * n ≤ length (now bytes)) ⌝ }
     ensures { λ r. ⌜ Each n r (counted (now (bytes .entry)) start n v n) ⌝ }
 {
@@ -60,12 +66,24 @@ fn count_all(bytes: &[u8], start: usize, n: usize, v: u8) -> [u8; 32]
     let mut i: usize = 0;
     let mut at = start;
     while i < n {
-        let row = block(bytes, at, n);
+        let row = heard(bytes, at, n);
         add_row(&mut counts, &row, v);
         at += n;
         i += 1;
     }
     counts
+}
+
+// Either way.
+fn count_all(bytes: &[u8], start: usize, n: usize, v: u8) -> [u8; 32]
+    requires { ⌜ (n ≤ 32) × (start + n * n ≤ length (now bytes)) ⌝ }
+    ensures { λ r. ⌜ Each n r (counted (now (bytes .entry)) start n v n) ⌝ }
+{
+    if 32 - n <= bytes.len() - start - n * n {
+        count_wide(bytes, start, n, v)
+    } else {
+        count_narrow(bytes, start, n, v)
+    }
 }
 
 // How many bytes to each receiver are v, in the round that starts at `start`; 0 where the bytes have no such round. Places beyond n are of no receiver, and open.

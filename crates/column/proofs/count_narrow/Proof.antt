@@ -1,4 +1,4 @@
--- `count_all` meets its contract.
+-- `count_narrow` meets its contract.
 use borrow.Author.Needs.{needs}
 use native.Mathlib.Omega.{arith}
 use Prim.Native.Nat.{_+_, _*_, _≤_, _-_}
@@ -9,8 +9,8 @@ use Rattle.line.proofs.LineLaws.{next-row, row-within}
 use Rattle.line.specs.Writing.{Each}
 use Rattle.column.specs.Column.{AtMost, counted}
 use Rattle.column.proofs.ColumnLaws.{counted-none, counted-turn, most-none, most-turn, most-weak}
-use Rattle.column.proofs.count_all.Statement.{statement}
-use Rattle.column.proofs.count_all.Tie as tie
+use Rattle.column.proofs.count_narrow.Statement.{statement}
+use Rattle.column.proofs.count_narrow.Tie as tie
 
 abbrev Inv-loop : tie.InvT-loop
 Inv-loop bytes start n v counts₀ i₀ at₀ counts i at = (i ≤ n) × (at ≡ start + i * n) × (length counts ≡ 32) × AtMost i 32 counts × Each n counts (counted bytes start n v i)
@@ -23,8 +23,8 @@ loop-holds c =
     let s = c .before in
     (omega arith, omega (arith, zero-mul (s .args .n)), refl, most-none, counted-none _ _ _ _ (s .pre .0))
 
-block-requires : tie.Need-block-requires Inv-loop μ-loop
-block-requires c κs =
+heard-requires : tie.Need-heard-requires Inv-loop μ-loop
+heard-requires c κs =
     let a = c .before in
     let s = a .before .before in
     let w = row-within (a .loop .i) (s .args .n) (s .args .n) (omega arith) in
@@ -55,7 +55,7 @@ loop-again c =
     let s = a .before .before in
     let g = s .args in
     let more = c .add-row .ensures .1 in
-    (omega arith, omega (arith, next-row (a .loop .i) (g .n), a .loop .inv .1), c .add-row .ensures .0, most-turn (a .loop .i) (g .v) (a .loop .counts) _ _ (a .loop .inv .3) more, counted-turn _ _ _ _ (s .pre .0) (a .loop .i) (a .loop .counts) _ _ (a .loop .inv .4) (rw (a .loop .inv .1) at (c .before .before .before .block .ensures)) more)
+    (omega arith, omega (arith, next-row (a .loop .i) (g .n), a .loop .inv .1), c .add-row .ensures .0, most-turn (a .loop .i) (g .v) (a .loop .counts) _ _ (a .loop .inv .3) more, counted-turn _ _ _ _ (s .pre .0) (a .loop .i) (a .loop .counts) _ _ (a .loop .inv .4) (rw (a .loop .inv .1) at (c .before .before .before .heard .ensures)) more)
 
 returns : tie.Need-returns Inv-loop μ-loop
 returns c =
@@ -63,14 +63,14 @@ returns c =
     let e : a .loop .i ≡ a .before .before .args .n = omega arith in
     rw e at (a .loop .inv .4)
 
-pub count-all-spec : {M : Type 1} → statement M
-count-all-spec =
+pub count-narrow-spec : {M : Type 1} → statement M
+count-narrow-spec =
     tie.close
     (tie.spec
     Inv-loop
     μ-loop
     loop-holds
-    block-requires
+    heard-requires
     add-row-requires
     add-at
     add-i
