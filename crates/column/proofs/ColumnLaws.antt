@@ -13,7 +13,7 @@ use Rattle.line.specs.Count.{if_then_else_, count}
 use Rattle.line.specs.Line.{has-round}
 use Rattle.line.specs.Writing.{Each}
 use Rattle.line.proofs.CountLaws.{if-true, if-false, count-zero, count-le, count-hit, count-miss}
-use Rattle.column.specs.Column.{column, counted, count-of, sent-by, byte-to, hit, more, AtMost, Rest}
+use Rattle.column.specs.Column.{column, counted, count-of, sent-by, each-of, byte-to, hit, more, AtMost, Rest}
 
 pub rest-all : (l : List ℕ) → Rest 0 l l
 unfolding Rest
@@ -32,6 +32,10 @@ hit-le b v = go (eqb b v)
     go false = omega arith
 
 -- ---- counts
+
+pub row-of : (n : ℕ) (row : List ℕ) (F : ℕ → ℕ) → Each n row F → (j : ℕ) → j < n → each-of row j ≡ F j
+unfolding Each each-of
+row-of n row F h = h
 
 module _ (bytes : List ℕ) (start n v : ℕ) where
   pub counted-none : n ≤ 32 → Each n (replicate 32 0) (counted bytes start n v 0)
@@ -58,20 +62,19 @@ module _ (bytes : List ℕ) (start n v : ℕ) where
       go true e = sym (count-hit m p e)
       go false e = omega (arith, count-miss m p e)
 
-  pub counted-turn : n ≤ 32 → (m : ℕ) (l l′ row : List ℕ) → Each n l (counted bytes start n v m) → Each n row (byte-to bytes (start + m * n))
-      → Each 32 l′ (more l row v) → Each n l′ (counted bytes start n v (m + 1))
+  pub counted-turn : (m : ℕ) (l l′ : List ℕ) (row : ℕ → ℕ) → Each n l (counted bytes start n v m)
+      → ((j : ℕ) → j < n → row j ≡ byte-to bytes (start + m * n) j) → Each n l′ (more l row v) → Each n l′ (counted bytes start n v (m + 1))
   unfolding Each more
-  counted-turn h m l l′ row before is now j k =
-      now j (omega arith) ∙ rw (before j k, is j k) (counted-more m j)
+  counted-turn m l l′ row before is now j k = now j k ∙ rw (before j k, is j k) (counted-more m j)
 
 -- no count is above the number of rows
 pub most-none : AtMost 0 32 (replicate 32 0)
 unfolding AtMost
 most-none j h = omega (arith, getD-replicate {A = ℕ} 32 j 0 0 h)
 
-pub most-turn : (m v : ℕ) (l l′ row : List ℕ) → AtMost m 32 l → Each 32 l′ (more l row v) → AtMost (m + 1) 32 l′
+pub most-turn : (m v : ℕ) (l l′ : List ℕ) (row : ℕ → ℕ) → AtMost m 32 l → Each 32 l′ (more l row v) → AtMost (m + 1) 32 l′
 unfolding AtMost Each more
-most-turn m v l l′ row most now j h = omega (arith, most j h, now j h, hit-le (getD row j 0) v)
+most-turn m v l l′ row most now j h = omega (arith, most j h, now j h, hit-le (row j) v)
 
 pub most-weak : (a b m : ℕ) (l : List ℕ) → a ≤ b → AtMost a m l → AtMost b m l
 unfolding AtMost

@@ -33,9 +33,12 @@ byte-to bytes a j = getD bytes (a + j) 0
 unfoldable pub hit : ℕ → ℕ → ℕ
 hit b v = if eqb b v then 1 else 0
 
--- one more at each place where the byte is v
-unfoldable pub more : List ℕ → List ℕ → ℕ → ℕ → ℕ
-more counts row v j = getD counts j 0 + hit (getD row j 0) v
+unfoldable pub each-of : List ℕ → ℕ → ℕ
+each-of l j = getD l j 0
+
+-- one more at each place where the row's byte is v
+unfoldable pub more : List ℕ → (ℕ → ℕ) → ℕ → ℕ → ℕ
+more counts row v j = getD counts j 0 + hit (row j) v
 
 -- the first m bytes of l are at most b
 unfoldable pub AtMost : ℕ → ℕ → List ℕ → Type 0

@@ -3,7 +3,7 @@ ghost use mathlib.Core.Path.{_≡_};
 ghost use Prim.Native.Nat.{_+_, _-_, _*_, _≤_, _<_};
 ghost use lib.ListN.{length};
 ghost use Rattle.line.specs.Writing.{Each};
-ghost use Rattle.column.specs.Column.{AtMost, byte-to, hit, more, counted, count-of, sent-by};
+ghost use Rattle.column.specs.Column.{AtMost, each-of, byte-to, hit, more, counted, count-of, sent-by};
 use line::Line;
 
 // The first n bytes of one sender to all.
@@ -30,7 +30,7 @@ fn hit(b: u8, v: u8) -> u8
 // One more at each place where the byte is v.
 fn add_row(counts: &mut [u8; 32], row: &[u8; 32], v: u8)
     requires { ⌜ (AtMost 254 32 (now counts)) × (length (now counts) ≡ 32) ⌝ }
-    ensures { λ _. ⌜ (length (now (counts .exit)) ≡ 32) × Each 32 (now (counts .exit)) (more (now (counts .entry)) (now (row .entry)) v) ⌝ }
+    ensures { λ _. ⌜ (length (now (counts .exit)) ≡ 32) × Each 32 (now (counts .exit)) (more (now (counts .entry)) (each-of (now (row .entry))) v) ⌝ }
 {
     let mut j: usize = 0;
     while j < 32 {
@@ -57,7 +57,19 @@ fn count_wide(bytes: &[u8], start: usize, n: usize, v: u8) -> [u8; 32]
     counts
 }
 
-// The same where the bytes may end with the round.
+// One more at each of the first n places where the byte is v.
+fn add_bytes(counts: &mut [u8; 32], bytes: &[u8], at: usize, n: usize, v: u8)
+    requires { ⌜ (n ≤ 32) × (at + n ≤ length (now bytes)) × (AtMost 254 n (now counts)) × (length (now counts) ≡ 32) ⌝ }
+    ensures { λ _. ⌜ (length (now (counts .exit)) ≡ 32) × Each n (now (counts .exit)) (more (now (counts .entry)) (byte-to (now (bytes .entry)) at) v) ⌝ }
+{
+    let mut j: usize = 0;
+    while j < n {
+        counts[j] += hit(bytes[at + j], v);
+        j += 1;
+    }
+}
+
+// The same as `count_wide` where the bytes may end with the round.
 fn count_narrow(bytes: &[u8], start: usize, n: usize, v: u8) -> [u8; 32]
     requires { ⌜ (n ≤ 32) × (start + n * n ≤ length (now bytes)) ⌝ }
     ensures { λ r. ⌜ Each n r (counted (now (bytes .entry)) start n v n) ⌝ }
@@ -66,8 +78,7 @@ fn count_narrow(bytes: &[u8], start: usize, n: usize, v: u8) -> [u8; 32]
     let mut i: usize = 0;
     let mut at = start;
     while i < n {
-        let row = heard(bytes, at, n);
-        add_row(&mut counts, &row, v);
+        add_bytes(&mut counts, bytes, at, n, v);
         at += n;
         i += 1;
     }

@@ -10,9 +10,7 @@ use borrow.Author.Tests.{leb-true, leb-false, le-leb, lt-leb}
 use mir.Syntax.{w64}
 use mir.Val.{Fits as FitsWord}
 use lib.Arith.{digits-lt, digits-div, digits-mod}
-use Rattle.line.specs.Count.{if_then_else_}
-use Rattle.line.proofs.CountLaws.{if-true}
-use Rattle.line.specs.Line.{Fits, rounds, table-length, place, in-array, has-round, largest-table}
+use Rattle.line.specs.Line.{Fits, rounds, table-length, place, has-round, largest-table}
 use Rattle.line.specs.Theorems.{PlaceSteps}
 
 -- ---- products
@@ -84,20 +82,6 @@ module _ (n r i j : ℕ) (hr : 1 ≤ r) (hi : i < n) (hj : j < n) where
   pub place-to : place n r i j % n ≡ j
   unfolding place
   place-to = digits-mod ((r - 1) * n + i) hj
-
--- ---- an array's places
-
-pub in-array-is : (n : ℕ) → n ≤ 32 → in-array n ≡ n
-unfolding in-array
-in-array-is n h = if-true n 0 (le-leb n 32 h)
-
-pub in-array-most : (n : ℕ) → in-array n ≤ 32
-unfolding in-array
-in-array-most n = go (leb n 32) refl
-  where
-    go : (b : Bool) → leb n 32 ≡ b → (if b then n else 0) ≤ 32
-    go true e = leb-true n 32 e
-    go false e = omega arith
 
 -- ---- whether a round has its bytes
 

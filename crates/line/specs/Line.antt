@@ -5,15 +5,10 @@
 use Prim.Native.Nat.{ℕ, _+_, _-_, _*_, _≤_, _<_}
 use mathlib.Core.Bool.{Bool, _&&_}
 use lib.Dec.{leb}
-use Rattle.line.specs.Count.{if_then_else_}
 
 -- "n: stations, 1 to 32."
 abbrev pub most-stations : ℕ
 most-stations = 32
-
--- how many places of an array of 32 are stations': n of them, none where n is above 32
-unfoldable pub in-array : ℕ → ℕ
-in-array n = if leb n most-stations then n else 0
 
 -- "t and T: thresholds, t at most T, t + 2T below n."
 pub record Fits (n t T : ℕ) : Type 0 where

@@ -1,6 +1,6 @@
 // The line of stations: its type with what follows from n, t and T, the readings of a ballot byte, and marks.
 ghost use mathlib.Core.Path.{_≡_};
-ghost use Rattle.line.specs.Line.{most-stations, in-array, rounds, table-length, has-round, largest-table, exchange-length, outcomes-length};
+ghost use Rattle.line.specs.Line.{most-stations, rounds, table-length, has-round, largest-table, exchange-length, outcomes-length};
 ghost use Rattle.line.specs.Ballot.{blank, silence};
 
 pub mod ballot;
@@ -48,13 +48,6 @@ impl Line {
     {
         let n = self.n as usize;
         2 * n * n
-    }
-
-    // How many places of an array of 32 are stations'. None are where n is above 32.
-    pub fn in_array(self) -> u8
-        ensures { λ r. ⌜ r ≡ in-array (self .n) ⌝ }
-    {
-        if self.n <= 32 { self.n } else { 0 }
     }
 
     // Whether the bytes of one round, from `start` on, are within a buffer of this length.

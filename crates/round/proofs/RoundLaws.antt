@@ -7,8 +7,8 @@ use native.Mathlib.Omega.{arith}
 use borrow.Author.Tests.{ltb-true, ne-eqb}
 use lib.ListN.{length, getD}
 use Rattle.line.specs.Count.{if_then_else_}
-use Rattle.line.specs.Line.{in-array, has-round}
-use Rattle.line.proofs.LineLaws.{in-array-is}
+use Rattle.line.specs.Line.{has-round}
+use Rattle.line.proofs.WritingLaws.{each-fewer}
 use Rattle.broadcast.specs.Exchange.{Row, firsts, seconds, z-from, z-of, y-from, y-of, for-y, grade-of}
 use Rattle.broadcast.proofs.TallyLaws.{ones-are-bytes, zeros-and-ones, firsts-else, blanks-for-neither, for-y-is}
 use Rattle.column.specs.Column.{column, counted, count-of}
@@ -29,8 +29,8 @@ use Rattle.round.specs.declared.Stations.{Stations}
 use Rattle.round.specs.Round.{said-by, Taken, speaker-within, playable, Plays}
 
 -- a line of at most 32 has all its stations in an array
-pub all-of : (n : ℕ) (l : List ℕ) (F : ℕ → ℕ) → n ≤ 32 → Each (in-array n) l F → Each n l F
-all-of n l F h each = rw (in-array-is n h) at each
+pub all-of : (n : ℕ) (l : List ℕ) (F : ℕ → ℕ) → n ≤ 32 → Each 32 l F → Each n l F
+all-of n l F h each = each-fewer 32 n l F h each
 
 -- ---- from counts
 

@@ -26,7 +26,7 @@ fn take_all(line: Line, sender: u8, part: Part, s: Stations, log: &[u8], start: 
     match part {
         Part::Sender => {
             let heard = column::sent_by(line, log, start, sender);
-            let value = stations::hear(line, heard);
+            let value = stations::hear(heard);
             Stations { value, z, grade }
         }
         Part::First => {
@@ -37,13 +37,13 @@ fn take_all(line: Line, sender: u8, part: Part, s: Stations, log: &[u8], start: 
         Part::Second => {
             let zeros = column::count(line, log, start, 0);
             let ones = column::count(line, log, start, 1);
-            let value = stations::decide(line, zeros, ones);
+            let value = stations::decide(zeros, ones);
             let grade = stations::grade(line, zeros, ones);
             Stations { value, z, grade }
         }
         Part::King(king) => {
             let heard = column::sent_by(line, log, start, king);
-            let value = stations::obey(line, grade, value, heard);
+            let value = stations::obey(grade, value, heard);
             Stations { value, z, grade }
         }
     }
@@ -80,7 +80,7 @@ pub fn play(
             if line.has_round(start, table.len()) {
                 let value = s.value;
                 let z = s.z;
-                let said = stations::tell(line, sender, part, value, z);
+                let said = stations::tell(sender, part, value, z);
                 post::round(line, marks, &said, table, log, start);
                 return take_all(line, sender, part, s, log, start);
             }

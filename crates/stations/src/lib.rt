@@ -1,9 +1,8 @@
 // The steps at all stations of a line at once, from their bytes and counts. The place i of an array is the station counted i from 0; places beyond n are of no
-// station, and open.
+// station, and filled all the same: loops of a fixed length are the quickest.
 ghost use lib.ListN.{getD};
 ghost use mathlib.Core.Path.{_≡_};
 ghost use Rattle.line.specs.Ballot.{read-sender};
-ghost use Rattle.line.specs.Line.{in-array};
 ghost use Rattle.line.specs.Writing.{Each};
 ghost use Rattle.broadcast.specs.Exchange.{z-from, y-from, for-y, grade-of};
 ghost use Rattle.broadcast.specs.Broadcast.{obey};
@@ -15,13 +14,12 @@ use line::ballot;
 use step::Part;
 
 // What each station tells.
-pub fn tell(line: Line, sender: u8, part: Part, value: [u8; 32], z: [u8; 32]) -> [u8; 32]
-    ensures { λ r. ⌜ Each (in-array (line .n)) r (λ i. told sender i (getD value i 0) (getD z i 0) (of-part part)) ⌝ }
+pub fn tell(sender: u8, part: Part, value: [u8; 32], z: [u8; 32]) -> [u8; 32]
+    ensures { λ r. ⌜ Each 32 r (λ i. told sender i (getD value i 0) (getD z i 0) (of-part part)) ⌝ }
 {
-    let n = line.in_array();
     let mut said = [0u8; 32];
     let mut i: u8 = 0;
-    while i < n {
+    while i < 32 {
         let k = i as usize;
         said[k] = step::told(part, sender, i, value[k], z[k]);
         i += 1;
@@ -30,13 +28,12 @@ pub fn tell(line: Line, sender: u8, part: Part, value: [u8; 32], z: [u8; 32]) ->
 }
 
 // Round 1: each station's x, from the sender's byte to it.
-pub fn hear(line: Line, heard: [u8; 32]) -> [u8; 32]
-    ensures { λ r. ⌜ Each (in-array (line .n)) r (λ j. read-sender (getD heard j 0)) ⌝ }
+pub fn hear(heard: [u8; 32]) -> [u8; 32]
+    ensures { λ r. ⌜ Each 32 r (λ j. read-sender (getD heard j 0)) ⌝ }
 {
-    let n = line.in_array();
     let mut next = [0u8; 32];
     let mut j: u8 = 0;
-    while j < n {
+    while j < 32 {
         let k = j as usize;
         next[k] = ballot::read_sender(heard[k]);
         j += 1;
@@ -56,12 +53,11 @@ fn equal_to(n: u8, x: u8, ones: u8) -> u8
 
 // The first round of an exchange: each station's z.
 pub fn choose(line: Line, x: [u8; 32], ones: [u8; 32]) -> [u8; 32]
-    ensures { λ r. ⌜ Each (in-array (line .n)) r (λ j. z-from (line .n) (line .upper) (getD x j 0) (equal-to (line .n) (getD x j 0) (getD ones j 0))) ⌝ }
+    ensures { λ r. ⌜ Each 32 r (λ j. z-from (line .n) (line .upper) (getD x j 0) (equal-to (line .n) (getD x j 0) (getD ones j 0))) ⌝ }
 {
-    let n = line.in_array();
     let mut next = [0u8; 32];
     let mut j: u8 = 0;
-    while j < n {
+    while j < 32 {
         let k = j as usize;
         let count = equal_to(line.n, x[k], ones[k]);
         next[k] = step::z(line.n, line.upper, x[k], count);
@@ -71,13 +67,12 @@ pub fn choose(line: Line, x: [u8; 32], ones: [u8; 32]) -> [u8; 32]
 }
 
 // The second: each station's y ..
-pub fn decide(line: Line, zeros: [u8; 32], ones: [u8; 32]) -> [u8; 32]
-    ensures { λ r. ⌜ Each (in-array (line .n)) r (λ j. y-from (getD zeros j 0) (getD ones j 0)) ⌝ }
+pub fn decide(zeros: [u8; 32], ones: [u8; 32]) -> [u8; 32]
+    ensures { λ r. ⌜ Each 32 r (λ j. y-from (getD zeros j 0) (getD ones j 0)) ⌝ }
 {
-    let n = line.in_array();
     let mut next = [0u8; 32];
     let mut j: u8 = 0;
-    while j < n {
+    while j < 32 {
         let k = j as usize;
         next[k] = step::y(zeros[k], ones[k]);
         j += 1;
@@ -87,12 +82,11 @@ pub fn decide(line: Line, zeros: [u8; 32], ones: [u8; 32]) -> [u8; 32]
 
 // .. and grade.
 pub fn grade(line: Line, zeros: [u8; 32], ones: [u8; 32]) -> [u8; 32]
-    ensures { λ r. ⌜ Each (in-array (line .n)) r (λ j. grade-of (line .n) (line .t) (line .upper) (for-y (getD zeros j 0) (getD ones j 0))) ⌝ }
+    ensures { λ r. ⌜ Each 32 r (λ j. grade-of (line .n) (line .t) (line .upper) (for-y (getD zeros j 0) (getD ones j 0))) ⌝ }
 {
-    let n = line.in_array();
     let mut next = [0u8; 32];
     let mut j: u8 = 0;
-    while j < n {
+    while j < 32 {
         let k = j as usize;
         next[k] = step::grade(line.n, line.t, line.upper, zeros[k], ones[k]);
         j += 1;
@@ -101,13 +95,12 @@ pub fn grade(line: Line, zeros: [u8; 32], ones: [u8; 32]) -> [u8; 32]
 }
 
 // The king's round: each station's value, from the king's byte to it.
-pub fn obey(line: Line, grade: [u8; 32], y: [u8; 32], heard: [u8; 32]) -> [u8; 32]
-    ensures { λ r. ⌜ Each (in-array (line .n)) r (λ j. obey (getD grade j 0) (getD y j 0) (getD heard j 0)) ⌝ }
+pub fn obey(grade: [u8; 32], y: [u8; 32], heard: [u8; 32]) -> [u8; 32]
+    ensures { λ r. ⌜ Each 32 r (λ j. obey (getD grade j 0) (getD y j 0) (getD heard j 0)) ⌝ }
 {
-    let n = line.in_array();
     let mut next = [0u8; 32];
     let mut j: u8 = 0;
-    while j < n {
+    while j < 32 {
         let k = j as usize;
         next[k] = step::obey(grade[k], y[k], heard[k]);
         j += 1;

@@ -5,7 +5,7 @@ use Prim.Native.Nat.{_≤_, _-_}
 use mathlib.Core.Path.{_≡_}
 use lib.ListN.{length, getD, length-set}
 use Rattle.line.specs.Writing.{Each}
-use Rattle.column.specs.Column.{AtMost, Rest, more}
+use Rattle.column.specs.Column.{each-of, AtMost, Rest, more}
 use Rattle.line.proofs.WritingLaws.{each-none, each-turn}
 use Rattle.column.proofs.ColumnLaws.{rest-all, rest-turn}
 use Rattle.column.proofs.ColumnLaws.{hit-le}
@@ -13,7 +13,7 @@ use Rattle.column.proofs.add_row.Statement.{statement}
 use Rattle.column.proofs.add_row.Tie as tie
 
 abbrev Inv-loop : tie.InvT-loop
-Inv-loop counts₀ row v j₀ counts j = (j ≤ 32) × (length counts ≡ 32) × Each j counts (more counts₀ row v) × Rest j counts counts₀
+Inv-loop counts₀ row v j₀ counts j = (j ≤ 32) × (length counts ≡ 32) × Each j counts (more counts₀ (each-of row) v) × Rest j counts counts₀
 
 abbrev μ-loop : tie.MeasureT-loop
 μ-loop counts₀ row v j₀ counts j = 32 - j
@@ -47,7 +47,7 @@ loop-less : tie.Need-loop-less Inv-loop μ-loop
 loop-less c = search needs
 
 loop-again : tie.Need-loop-again Inv-loop μ-loop
-unfolding Rest more
+unfolding Rest more each-of
 loop-again c =
     let a = c .before .before .before .before in
     let s = a .before in

@@ -5,15 +5,15 @@ use Prim.Native.Nat.{_+_, _*_, _≤_, _-_}
 use mathlib.Core.Path.{_≡_, refl}
 use native.Mathlib.Nat.{zero-mul}
 use lib.ListN.{length}
-use Rattle.line.proofs.LineLaws.{next-row, row-within}
 use Rattle.line.specs.Writing.{Each}
-use Rattle.column.specs.Column.{AtMost, counted}
-use Rattle.column.proofs.ColumnLaws.{counted-none, counted-turn, most-none, most-turn, most-weak}
+use Rattle.line.proofs.LineLaws.{next-row, row-within}
+use Rattle.column.specs.Column.{byte-to, counted}
+use Rattle.column.proofs.ColumnLaws.{counted-none, counted-most, counted-turn}
 use Rattle.column.proofs.count_narrow.Statement.{statement}
 use Rattle.column.proofs.count_narrow.Tie as tie
 
 abbrev Inv-loop : tie.InvT-loop
-Inv-loop bytes start n v counts₀ i₀ at₀ counts i at = (i ≤ n) × (at ≡ start + i * n) × (length counts ≡ 32) × AtMost i 32 counts × Each n counts (counted bytes start n v i)
+Inv-loop bytes start n v counts₀ i₀ at₀ counts i at = (i ≤ n) × (at ≡ start + i * n) × (length counts ≡ 32) × Each n counts (counted bytes start n v i)
 
 abbrev μ-loop : tie.MeasureT-loop
 μ-loop bytes start n v counts₀ i₀ at₀ counts i at = n - i
@@ -21,24 +21,19 @@ abbrev μ-loop : tie.MeasureT-loop
 loop-holds : tie.Need-loop-holds Inv-loop μ-loop
 loop-holds c =
     let s = c .before in
-    (omega arith, omega (arith, zero-mul (s .args .n)), refl, most-none, counted-none _ _ _ _ (s .pre .0))
+    (omega arith, omega (arith, zero-mul (s .args .n)), refl, counted-none _ _ _ _ (s .pre .0))
 
-heard-requires : tie.Need-heard-requires Inv-loop μ-loop
-heard-requires c κs =
-    let a = c .before in
+add-bytes-requires : tie.Need-add-bytes-requires Inv-loop μ-loop
+add-bytes-requires c κs =
+    let a = c .before .before in
     let s = a .before .before in
-    let w = row-within (a .loop .i) (s .args .n) (s .args .n) (omega arith) in
-    (s .pre .0, omega (arith, s .pre .1, a .loop .inv .1))
-
-add-row-requires : tie.Need-add-row-requires Inv-loop μ-loop
-add-row-requires c κs =
-    let a = c .before .before .before .before in
-    let s = a .before .before in
-    (most-weak (a .loop .i) 254 32 (a .loop .counts) (omega (arith, s .pre .0)) (a .loop .inv .3), a .loop .inv .2)
+    let g = s .args in
+    let w = row-within (a .loop .i) (g .n) (g .n) (omega arith) in
+    (s .pre .0, omega (arith, s .pre .1, a .loop .inv .1), counted-most (g .bytes .now) (g .start) (g .n) (g .v) 254 (a .loop .i) (a .loop .counts) (omega (arith, s .pre .0)) (a .loop .inv .3), a .loop .inv .2)
 
 add-at : tie.Need-add-at Inv-loop μ-loop
 add-at c =
-    let a = c .before .before .before .before .before in
+    let a = c .before .before .before in
     let s = a .before .before in
     let w = row-within (a .loop .i) (s .args .n) (s .args .n) (omega arith) in
     omega (arith, s .pre .1, a .loop .inv .1)
@@ -51,17 +46,17 @@ loop-less c = search needs
 
 loop-again : tie.Need-loop-again Inv-loop μ-loop
 loop-again c =
-    let a = c .before .before .before .before .before in
+    let a = c .before .before .before in
     let s = a .before .before in
     let g = s .args in
-    let more = c .add-row .ensures .1 in
-    (omega arith, omega (arith, next-row (a .loop .i) (g .n), a .loop .inv .1), c .add-row .ensures .0, most-turn (a .loop .i) (g .v) (a .loop .counts) _ _ (a .loop .inv .3) more, counted-turn _ _ _ _ (s .pre .0) (a .loop .i) (a .loop .counts) _ _ (a .loop .inv .4) (rw (a .loop .inv .1) at (c .before .before .before .heard .ensures)) more)
+    let added = rw (a .loop .inv .1) at (c .add-bytes .ensures .1) in
+    (omega arith, omega (arith, next-row (a .loop .i) (g .n), a .loop .inv .1), c .add-bytes .ensures .0, counted-turn (g .bytes .now) (g .start) (g .n) (g .v) (a .loop .i) (a .loop .counts) _ (byte-to (g .bytes .now) (g .start + a .loop .i * g .n)) (a .loop .inv .3) (λ j h. refl) added)
 
 returns : tie.Need-returns Inv-loop μ-loop
 returns c =
     let a = c .before in
     let e : a .loop .i ≡ a .before .before .args .n = omega arith in
-    rw e at (a .loop .inv .4)
+    rw e at (a .loop .inv .3)
 
 pub count-narrow-spec : {M : Type 1} → statement M
 count-narrow-spec =
@@ -70,8 +65,7 @@ count-narrow-spec =
     Inv-loop
     μ-loop
     loop-holds
-    heard-requires
-    add-row-requires
+    add-bytes-requires
     add-at
     add-i
     loop-less

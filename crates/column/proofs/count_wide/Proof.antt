@@ -8,8 +8,8 @@ use lib.ListN.{length}
 use Rattle.line.proofs.LineLaws.{next-row, row-within}
 use Rattle.line.specs.Writing.{Each}
 use Rattle.line.proofs.WritingLaws.{each-fewer}
-use Rattle.column.specs.Column.{AtMost, counted}
-use Rattle.column.proofs.ColumnLaws.{counted-none, counted-turn, most-none, most-turn, most-weak}
+use Rattle.column.specs.Column.{AtMost, each-of, byte-to, more, counted}
+use Rattle.column.proofs.ColumnLaws.{counted-none, row-of, counted-turn, most-none, most-turn, most-weak}
 use Rattle.column.proofs.count_wide.Statement.{statement}
 use Rattle.column.proofs.count_wide.Tie as tie
 
@@ -55,8 +55,10 @@ loop-again c =
     let a = c .before .before .before .before .before in
     let s = a .before .before in
     let g = s .args in
-    let more = c .add-row .ensures .1 in
-    (omega arith, omega (arith, next-row (a .loop .i) (g .n), a .loop .inv .1), c .add-row .ensures .0, most-turn (a .loop .i) (g .v) (a .loop .counts) _ _ (a .loop .inv .3) more, counted-turn _ _ _ _ (s .pre .0) (a .loop .i) (a .loop .counts) _ _ (a .loop .inv .4) (each-fewer 32 (g .n) _ _ (s .pre .0) (rw (a .loop .inv .1) at (c .before .before .before .heard .ensures))) more)
+    let row = each-of (c .before .before .before .heard .result) in
+    let added = c .add-row .ensures .1 in
+    let heard = each-fewer 32 (g .n) _ (byte-to (g .bytes .now) (g .start + a .loop .i * g .n)) (s .pre .0) (rw (a .loop .inv .1) at (c .before .before .before .heard .ensures)) in
+    (omega arith, omega (arith, next-row (a .loop .i) (g .n), a .loop .inv .1), c .add-row .ensures .0, most-turn (a .loop .i) (g .v) (a .loop .counts) _ row (a .loop .inv .3) added, counted-turn (g .bytes .now) (g .start) (g .n) (g .v) (a .loop .i) (a .loop .counts) _ row (a .loop .inv .4) (row-of _ _ _ heard) (each-fewer 32 (g .n) _ (more (a .loop .counts) row (g .v)) (s .pre .0) added))
 
 returns : tie.Need-returns Inv-loop μ-loop
 returns c =

@@ -2,26 +2,22 @@
 use borrow.Author.Needs.{needs}
 use native.Mathlib.Omega.{arith}
 use Prim.Native.Nat.{_≤_, _-_}
-use mathlib.Core.Path.{_≡_, refl, _∙_}
+use mathlib.Core.Path.{_≡_, refl}
 use lib.ListN.{length, getD, length-set}
 use Rattle.line.specs.Writing.{Each}
-use Rattle.line.proofs.LineLaws.{in-array-most}
 use Rattle.line.proofs.WritingLaws.{each-none, each-turn}
 use Rattle.broadcast.specs.Exchange.{for-y, grade-of}
 use Rattle.stations.proofs.grade.Statement.{statement}
 use Rattle.stations.proofs.grade.Tie as tie
 
 abbrev Inv-loop : tie.InvT-loop
-Inv-loop line zeros ones n next₀ j₀ next j = (j ≤ n) × (n ≤ 32) × (length next ≡ 32) × Each j next (λ k. grade-of (line .n) (line .t) (line .upper) (for-y (getD zeros k 0) (getD ones k 0)))
+Inv-loop line zeros ones next₀ j₀ next j = (j ≤ 32) × (length next ≡ 32) × Each j next (λ k. grade-of (line .n) (line .t) (line .upper) (for-y (getD zeros k 0) (getD ones k 0)))
 
 abbrev μ-loop : tie.MeasureT-loop
-μ-loop line zeros ones n next₀ j₀ next j = n - j
-
-in-array-requires : tie.Need-in-array-requires Inv-loop μ-loop
-in-array-requires c κs = search needs
+μ-loop line zeros ones next₀ j₀ next j = 32 - j
 
 loop-holds : tie.Need-loop-holds Inv-loop μ-loop
-loop-holds c = (omega arith, omega (arith, c .in-array .ensures, in-array-most (c .before .args .line .n)), refl, each-none _ _)
+loop-holds c = (omega arith, refl, each-none _ _)
 
 cast-k : tie.Need-cast-k Inv-loop μ-loop
 cast-k c = search needs
@@ -47,13 +43,13 @@ loop-less c = search needs
 loop-again : tie.Need-loop-again Inv-loop μ-loop
 loop-again c =
     let a = c .before .before in
-    (omega arith, a .loop .inv .1, simp length-set (a .loop .inv .2), each-turn (a .loop .next) _ (a .loop .j) _ (omega (arith, a .loop .inv .1, a .loop .inv .2)) (a .loop .inv .3) (c .grade .ensures))
+    (omega arith, simp length-set (a .loop .inv .1), each-turn (a .loop .next) _ (a .loop .j) _ (omega (arith, a .loop .inv .1)) (a .loop .inv .2) (c .grade .ensures))
 
 returns : tie.Need-returns Inv-loop μ-loop
 returns c =
     let a = c .before in
-    let e : a .loop .j ≡ a .before .in-array .result = omega arith in
-    rw (e ∙ a .before .in-array .ensures) at (a .loop .inv .3)
+    let e : a .loop .j ≡ 32 = omega arith in
+    rw e at (a .loop .inv .2)
 
 pub grade-spec : {M : Type 1} → statement M
 grade-spec =
@@ -61,7 +57,6 @@ grade-spec =
     (tie.spec
     Inv-loop
     μ-loop
-    in-array-requires
     loop-holds
     cast-k
     array-read-grade

@@ -2,10 +2,9 @@
 use borrow.Author.Needs.{needs}
 use native.Mathlib.Omega.{arith}
 use Prim.Native.Nat.{_≤_, _-_}
-use mathlib.Core.Path.{_≡_, refl, _∙_}
+use mathlib.Core.Path.{_≡_, refl}
 use lib.ListN.{length, getD, length-set}
 use Rattle.line.specs.Writing.{Each}
-use Rattle.line.proofs.LineLaws.{in-array-most}
 use Rattle.line.proofs.WritingLaws.{each-none, each-turn}
 use Rattle.broadcast.specs.Station.{told}
 use Rattle.step.specs.Part.{of-part}
@@ -13,16 +12,13 @@ use Rattle.stations.proofs.tell.Statement.{statement}
 use Rattle.stations.proofs.tell.Tie as tie
 
 abbrev Inv-loop : tie.InvT-loop
-Inv-loop sender part value z n said₀ i₀ said i = (i ≤ n) × (n ≤ 32) × (length said ≡ 32) × Each i said (λ k. told sender k (getD value k 0) (getD z k 0) (of-part part))
+Inv-loop sender part value z said₀ i₀ said i = (i ≤ 32) × (length said ≡ 32) × Each i said (λ k. told sender k (getD value k 0) (getD z k 0) (of-part part))
 
 abbrev μ-loop : tie.MeasureT-loop
-μ-loop sender part value z n said₀ i₀ said i = n - i
-
-in-array-requires : tie.Need-in-array-requires Inv-loop μ-loop
-in-array-requires c κs = search needs
+μ-loop sender part value z said₀ i₀ said i = 32 - i
 
 loop-holds : tie.Need-loop-holds Inv-loop μ-loop
-loop-holds c = (omega arith, omega (arith, c .in-array .ensures, in-array-most (c .before .args .line .n)), refl, each-none _ _)
+loop-holds c = (omega arith, refl, each-none _ _)
 
 cast-k : tie.Need-cast-k Inv-loop μ-loop
 cast-k c = search needs
@@ -48,13 +44,13 @@ loop-less c = search needs
 loop-again : tie.Need-loop-again Inv-loop μ-loop
 loop-again c =
     let a = c .before .before in
-    (omega arith, a .loop .inv .1, simp length-set (a .loop .inv .2), each-turn (a .loop .said) _ (a .loop .i) _ (omega (arith, a .loop .inv .1, a .loop .inv .2)) (a .loop .inv .3) (c .told .ensures))
+    (omega arith, simp length-set (a .loop .inv .1), each-turn (a .loop .said) _ (a .loop .i) _ (omega (arith, a .loop .inv .1)) (a .loop .inv .2) (c .told .ensures))
 
 returns : tie.Need-returns Inv-loop μ-loop
 returns c =
     let a = c .before in
-    let e : a .loop .i ≡ a .before .in-array .result = omega arith in
-    rw (e ∙ a .before .in-array .ensures) at (a .loop .inv .3)
+    let e : a .loop .i ≡ 32 = omega arith in
+    rw e at (a .loop .inv .2)
 
 pub tell-spec : {M : Type 1} → statement M
 tell-spec =
@@ -62,7 +58,6 @@ tell-spec =
     (tie.spec
     Inv-loop
     μ-loop
-    in-array-requires
     loop-holds
     cast-k
     array-read-told
