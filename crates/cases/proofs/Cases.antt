@@ -10,11 +10,11 @@ use Rattle.broadcast.specs.Exchange.{tally, firsts, seconds, z-of, y-of, grade-
 use Rattle.broadcast.specs.Broadcast.{phases, first-round, obey, x-after, y-after, grade-after, value-of, final-grade, final-flag}
 use Rattle.broadcast.specs.Station.{at}
 use Rattle.broadcast.specs.Bytes.{tabulate, setting, outcome-byte, outcome-bytes, outcomes}
-use Rattle.sheet.specs.Layout.{byte, two, four, header, spare, first, records, start, round, from, to, ballot, next, rest}
-use Rattle.sheet.specs.Chain.{is-record, after, reached}
-use Rattle.sheet.specs.Judgement.{ill-formed, sheet-form, line-and-length, verdict-to-8, misplaced, record-form, unmarked-sender, same-place, taken-before, duplicate, record-verdict, records-verdict, sheet-verdict}
+use Rattle.layout.specs.Layout.{byte, two, four, header, spare, first, records, start, round, from, to, ballot, next, rest}
+use Rattle.layout.specs.Chain.{is-record, after, reached}
+use Rattle.judgement.specs.Judgement.{ill-formed, sheet-form, line-and-length, verdict-to-8, misplaced, record-form, unmarked-sender, same-place, taken-before, duplicate, record-verdict, records-verdict, sheet-verdict}
 use Rattle.sheet.specs.Reading.{place-of, filled}
-use Rattle.sheet.proofs.ChainLaws.{kind, walk, fate}
+use Rattle.layout.proofs.ChainLaws.{kind, walk, fate}
 use Rattle.lines.specs.Lines.{station-line, station-lines, verdict, lines}
 use Rattle.text.specs.Decimal.{decimal}
 use Rattle.cases.specs.Table.{All}

@@ -4,7 +4,7 @@ use mathlib.Core.Path.{_≡_}
 use mathlib.Core.List.{List, [], _∷_}
 use lib.ListN.{length}
 use Rattle.refusal.specs.Cause.{code}
-use Rattle.sheet.specs.Chain.{Fate}
+use Rattle.layout.specs.Chain.{Fate}
 use Rattle.lines.specs.Lines.{Field, agree, num, dash, verdict, lines}
 use Rattle.lines.specs.Text.{text}
 

@@ -9,7 +9,7 @@ use native.Mathlib.Omega.{arith}
 use lib.ListN.{getD}
 use Rattle.line.specs.Marks.{marked}
 use Rattle.broadcast.specs.Station.{at}
-use Rattle.sheet.specs.declared.Header.{Header}
+use Rattle.layout.specs.declared.Header.{Header}
 use Rattle.text.specs.Decimal.{space, decimal, numeral}
 use Rattle.text.specs.Laid.{Puts}
 use Rattle.text.proofs.DecimalLaws.{decimal-numeral}

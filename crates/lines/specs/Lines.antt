@@ -9,10 +9,10 @@ use Rattle.refusal.specs.declared.cause.Verdict.{Verdict}
 use Rattle.refusal.specs.declared.cause.Verdict.the-variants.{Accepted, Refused}
 use Rattle.broadcast.specs.Station.{at}
 use Rattle.broadcast.specs.Bytes.{Run, outcomes}
-use Rattle.sheet.specs.declared.Header.{Header}
-use Rattle.sheet.specs.Layout.{header}
-use Rattle.sheet.specs.Chain.{Fate}
-use Rattle.sheet.specs.Judgement.{sheet-verdict}
+use Rattle.layout.specs.declared.Header.{Header}
+use Rattle.layout.specs.Layout.{header}
+use Rattle.layout.specs.Chain.{Fate}
+use Rattle.judgement.specs.Judgement.{sheet-verdict}
 use Rattle.sheet.specs.Reading.{table-of}
 
 -- a field: a fixed word, a number, or a dash

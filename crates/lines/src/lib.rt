@@ -8,7 +8,7 @@ ghost use Rattle.lines.specs.Lines.{num, dash, refused, first-line, stat
 ghost use Rattle.lines.specs.Text.{line-text, text};
 use line::Line;
 use line::marks;
-use sheet::Header;
+use layout::Header;
 
 // The first line of a listing.
 fn first_line(out: &mut [u8], header: Header) -> usize

@@ -20,10 +20,10 @@ use Rattle.broadcast.specs.Station.{at}
 use Rattle.broadcast.specs.Bytes.{outcomes}
 use Rattle.broadcast.specs.Theorems.{OutcomeBytes}
 use Rattle.broadcast.proofs.Theorems.{outcome-bytes}
-use Rattle.sheet.specs.declared.Header.{Header}
-use Rattle.sheet.specs.Layout.{header}
-use Rattle.sheet.specs.Chain.{Fate}
-use Rattle.sheet.specs.Judgement.{verdict-to-8, chain-verdict, sheet-verdict}
+use Rattle.layout.specs.declared.Header.{Header}
+use Rattle.layout.specs.Layout.{header}
+use Rattle.layout.specs.Chain.{Fate}
+use Rattle.judgement.specs.Judgement.{verdict-to-8, chain-verdict, sheet-verdict}
 use Rattle.sheet.specs.Reading.{table-of}
 use Rattle.sheet.specs.Loops.{SoundHeader}
 use Rattle.sheet.proofs.PromiseLaws.{opening-sound}

@@ -15,11 +15,11 @@ use Rattle.refusal.specs.declared.cause.Verdict.the-variants as verdict
 use Rattle.refusal.proofs.HeaderLaws.{both-accepted, header-accepts, length-accepts}
 use Rattle.broadcast.specs.Bytes.{log}
 use Rattle.rehearsal.specs.Promise.{rehearsal-verdict, Rehearsed}
-use Rattle.sheet.specs.declared.Header.{Header}
+use Rattle.layout.specs.declared.Header.{Header}
 use Rattle.sheet.specs.declared.Reading.{Reading}
 use Rattle.sheet.specs.declared.Reading.the-variants as reading
-use Rattle.sheet.specs.Layout.{header}
-use Rattle.sheet.specs.Judgement.{verdict-to-8, chain-verdict, sheet-verdict}
+use Rattle.layout.specs.Layout.{header}
+use Rattle.judgement.specs.Judgement.{verdict-to-8, chain-verdict, sheet-verdict}
 use Rattle.sheet.specs.Reading.{table-of, reading-by, Reads}
 use Rattle.sheet.proofs.PromiseLaws.{opening-sound, opening-length}
 use Rattle.text.specs.Laid.{laid, Puts}

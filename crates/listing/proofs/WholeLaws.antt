@@ -14,9 +14,9 @@ use Rattle.refusal.specs.declared.cause.Verdict.{Verdict}
 use Rattle.refusal.specs.declared.cause.Verdict.the-variants.{Accepted, Refused}
 use Rattle.line.proofs.LineLaws.{table-bound}
 use Rattle.refusal.proofs.HeaderLaws.{header-sound}
-use Rattle.sheet.specs.Layout.{header}
-use Rattle.sheet.specs.Chain.{Fate}
-use Rattle.sheet.specs.Judgement.{sheet-form, line-and-length, verdict-to-8, chain-verdict, sheet-verdict}
+use Rattle.layout.specs.Layout.{header}
+use Rattle.layout.specs.Chain.{Fate}
+use Rattle.judgement.specs.Judgement.{sheet-form, line-and-length, verdict-to-8, chain-verdict, sheet-verdict}
 use Rattle.sheet.specs.Loops.{SoundHeader}
 use Rattle.lines.specs.Lines.{verdict, lines}
 use Rattle.lines.specs.Text.{text}

@@ -7,10 +7,10 @@ use Rattle.line.specs.Line.{table-length}
 use Rattle.refusal.specs.Cause.{written}
 use Rattle.refusal.specs.Header.{exact-length}
 use Rattle.broadcast.specs.Bytes.{log, outcomes}
-use Rattle.sheet.specs.declared.Header.{Header}
-use Rattle.sheet.specs.Layout.{header}
-use Rattle.sheet.specs.Chain.{Fate}
-use Rattle.sheet.specs.Judgement.{sheet-verdict}
+use Rattle.layout.specs.declared.Header.{Header}
+use Rattle.layout.specs.Layout.{header}
+use Rattle.layout.specs.Chain.{Fate}
+use Rattle.judgement.specs.Judgement.{sheet-verdict}
 use Rattle.sheet.specs.Reading.{table-of}
 use Rattle.sheet.specs.Loops.{SoundHeader}
 use Rattle.text.specs.Laid.{Puts}

@@ -6,9 +6,9 @@ use lib.ListN.{length, take}
 use Rattle.line.specs.Line.{table-length}
 use Rattle.refusal.specs.Cause.{written}
 use Rattle.broadcast.specs.Bytes.{log, outcomes}
-use Rattle.sheet.specs.Layout.{header}
-use Rattle.sheet.specs.Chain.{Fate}
-use Rattle.sheet.specs.Judgement.{sheet-verdict}
+use Rattle.layout.specs.Layout.{header}
+use Rattle.layout.specs.Chain.{Fate}
+use Rattle.judgement.specs.Judgement.{sheet-verdict}
 use Rattle.sheet.specs.Reading.{table-of}
 use Rattle.text.specs.Laid.{laid}
 use Rattle.lines.specs.Lines.{lines-by, run, lines}

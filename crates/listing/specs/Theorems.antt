@@ -4,7 +4,7 @@ use mathlib.Core.Path.{_≡_}
 use mathlib.Core.List.{List}
 use lib.ListN.{length}
 use Rattle.line.specs.Line.{largest-table}
-use Rattle.sheet.specs.Chain.{Fate}
+use Rattle.layout.specs.Chain.{Fate}
 use Rattle.lines.specs.Lines.{lines}
 use Rattle.lines.specs.Text.{text}
 use Rattle.listing.specs.Promise.{front, listing, Lists, Listed}

@@ -5,9 +5,9 @@ ghost use lib.ListN.{length};
 ghost use Rattle.line.specs.Line.{outcomes-length};
 ghost use Rattle.listing.specs.Promise.{wanted, Lists};
 ghost use Rattle.listing.specs.Loops.{Readable, Runs, ListsWhole};
+use layout::Header;
 use line::Line;
 use refusal::cause::Verdict;
-use sheet::Header;
 use sheet::Reading;
 
 // The table length of the sheet's line.

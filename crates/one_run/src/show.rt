@@ -1,6 +1,6 @@
 // What is printed of a run.
 use libc::STDOUT_FILENO;
-use sheet::Header;
+use layout::Header;
 
 // A number, and a space before it.
 fn number(n: u64) {

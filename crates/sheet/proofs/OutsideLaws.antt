@@ -11,12 +11,13 @@ use borrow.Author.Tests.{ltb-true}
 use Rattle.refusal.specs.Cause.{refused-if}
 use Rattle.refusal.specs.declared.cause.Cause.the-variants.{Duplicate}
 use Rattle.line.proofs.CountLaws.{count-same}
-use Rattle.sheet.specs.Layout.{byte, two, four, header, spare, first, records, start, round, from, to, ballot, next, rest}
-use Rattle.sheet.specs.Chain.{Record, reached, after, Fate, leaves, again, ends}
-use Rattle.sheet.specs.Judgement.{ill-formed, sheet-form, line-and-length, verdict-to-8, misplaced, record-form, unmarked-sender, same-place, taken-before, duplicate, record-verdict, records-verdict, chain-verdict, sheet-verdict}
+use Rattle.layout.specs.Layout.{byte, two, four, header, spare, first, records, start, round, from, to, ballot, next, rest}
+use Rattle.layout.specs.Chain.{Record, reached, after, Fate, leaves, again, ends}
+use Rattle.judgement.specs.Judgement.{ill-formed, sheet-form, line-and-length, verdict-to-8, misplaced, record-form, unmarked-sender, same-place, taken-before, duplicate, record-verdict, records-verdict, chain-verdict, sheet-verdict}
 use Rattle.sheet.specs.Reading.{place-of, filled, table-of}
 use Rattle.sheet.specs.Theorems.{SameChain}
-use Rattle.sheet.proofs.ChainLaws.{Over, Chained, kind, after-record, after-over, one-chain}
+use Rattle.layout.proofs.ChainLaws.{Over, Chained, kind, after-record, after-over}
+use Rattle.sheet.proofs.FateLaws.{one-chain}
 
 -- the record with index i is the same in two sheets
 abbrev pub SameRecord : List ℕ → List ℕ → ℕ → Type 0

@@ -11,28 +11,19 @@ use Rattle.line.specs.Line.{rounds, table-length, largest-table}
 use Rattle.refusal.specs.Header.{outside}
 use Rattle.line.proofs.LineLaws.{place-below, place-round, place-from, place-to, table-bound}
 use Rattle.refusal.proofs.HeaderLaws.{inside, neither}
-use Rattle.sheet.specs.Layout.{header, round, from, to, rest}
-use Rattle.sheet.specs.Judgement.{misplaced, same-place}
+use Rattle.layout.specs.Layout.{header, round, from, to, rest}
+use Rattle.judgement.specs.Judgement.{misplaced, same-place}
 use Rattle.sheet.specs.Reading.{place-of}
+use Rattle.judgement.proofs.RangeLaws.{InRange, in-range}
 use Rattle.sheet.specs.Loops.{SoundHeader}
-
--- a range's test, of equal numbers
-pub same-range : {high high′ x x′ : ℕ} {r : Bool} → r ≡ outside 1 high x → high ≡ high′ → x ≡ x′ → outside 1 high′ x′ ≡ r
-same-range e h k = rw (e, h, k)
 
 pub both-true : (a b : Bool) → a && b ≡ true → (a ≡ true) × (b ≡ true)
 both-true true b e = (refl, e)
 both-true false b e = (e, cc)
 
 -- a record's numbers, where cause 11 lets it through
-pub record InPlace (s : List ℕ) (i : ℕ) : Type 0 where
-  pub round-low : 1 ≤ round s i
-  pub round-high : round s i ≤ rounds (header s .t)
-  pub from-low : 1 ≤ from s i
-  pub from-high : from s i ≤ header s .n
-  pub to-low : 1 ≤ to s i
-  pub to-high : to s i ≤ header s .n
-  pub rest-zero : rest s i ≡ 0
+abbrev pub InPlace : List ℕ → ℕ → Type 0
+InPlace s i = InRange (header s .n) (rounds (header s .t)) (round s i) (from s i) (to s i) (rest s i)
 
 module _ (s : List ℕ) where
   -- ---- one record
@@ -40,28 +31,7 @@ module _ (s : List ℕ) where
   -- what cause 11 lets through is in its ranges
   pub in-place : (i : ℕ) → misplaced s i ≡ false → InPlace s i
   unfolding misplaced
-  in-place i e =
-      let last = rounds (header s .t) in
-      let n = header s .n in
-      let o₁ = outside 1 last (round s i) in
-      let o₂ = outside 1 n (from s i) in
-      let o₃ = outside 1 n (to s i) in
-      let blank = eqb (rest s i) 0 in
-      let (e₂, d) = neither (o₁ || o₂ || o₃) (not blank) e in
-      let (e₃, c) = neither (o₁ || o₂) o₃ e₂ in
-      let (a, b) = neither o₁ o₂ e₃ in
-      let r = inside 1 last (round s i) a in
-      let f = inside 1 n (from s i) b in
-      let t = inside 1 n (to s i) c in
-      record {
-        round-low = r .0;
-        round-high = r .1;
-        from-low = f .0;
-        from-high = f .1;
-        to-low = t .0;
-        to-high = t .1;
-        rest-zero = eqb-true (rest s i) 0 (not-false blank d);
-      }
+  in-place i e = in-range _ _ _ _ _ _ e
 
   module _ (i : ℕ) (p : InPlace s i) where
     from-below : from s i - 1 < header s .n

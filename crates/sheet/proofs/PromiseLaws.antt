@@ -1,5 +1,5 @@
 -- Laws of what the reader promises: what causes 1 to 8 let through, and the promise by what the verdict is. Assumes nothing.
-use Prim.Native.Nat.{ℕ}
+use Prim.Native.Nat.{ℕ, _≤_}
 use mathlib.Core.Path.{_≡_, refl}
 use mathlib.Core.List.{List}
 use lib.ListN.{length}
@@ -10,26 +10,24 @@ use Rattle.refusal.specs.declared.cause.Cause.{Cause}
 use Rattle.refusal.specs.declared.cause.Verdict.{Verdict}
 use Rattle.refusal.specs.declared.cause.Verdict.the-variants as verdict
 use Rattle.refusal.proofs.HeaderLaws.{both-accepted, header-sound, length-exact}
-use Rattle.sheet.specs.declared.Header.{Header}
+use Rattle.layout.specs.declared.Header.{Header}
 use Rattle.sheet.specs.declared.Reading.{Reading}
 use Rattle.sheet.specs.declared.Reading.the-variants as reading
-use Rattle.sheet.specs.Layout.{header}
-use Rattle.sheet.specs.Chain.{Fate}
-use Rattle.sheet.specs.Judgement.{sheet-form, line-and-length, verdict-to-8, chain-verdict, sheet-verdict}
+use Rattle.layout.specs.Layout.{header, most-records, records}
+use Rattle.layout.specs.Chain.{Fate}
+use Rattle.judgement.specs.Judgement.{sheet-form, line-and-length, verdict-to-8, chain-verdict, sheet-verdict}
 use Rattle.sheet.specs.Reading.{table-of, numbers-of, reading-number, reading-values, reading-by, Reads}
-use Rattle.sheet.specs.Loops.{Whole, SoundHeader}
-use Rattle.sheet.proofs.FormLaws.{form-sound}
-use Rattle.sheet.proofs.ChainLaws.{fate}
+use Rattle.sheet.specs.Loops.{SoundHeader}
+use Rattle.judgement.proofs.FormLaws.{form-sound}
+use Rattle.layout.proofs.ChainLaws.{fate}
 
 module _ (s : List ℕ) where
   -- ---- what causes 1 to 8 let through
 
   module _ (l : ℕ) (e : verdict-to-8 s l ≡ verdict.Accepted) where
-    pub opening-whole : Whole s
+    pub opening-most : records s ≤ most-records
     unfolding verdict-to-8
-    opening-whole =
-        let w = form-sound s (both-accepted (sheet-form s) (line-and-length s l) e .0) in
-        record { whole = w .length-is; most = w .most }
+    opening-most = form-sound s (both-accepted (sheet-form s) (line-and-length s l) e .0) .most
 
     opening-both : let h = header s in
         (header-verdict (h .n) (h .t) (h .upper) (h .sender) (h .value) (h .marks) ≡ verdict.Accepted)

@@ -18,11 +18,11 @@ use Rattle.refusal.specs.declared.cause.Verdict.the-variants.{Accepted}
 use Rattle.line.proofs.CountLaws.{none-passes}
 use Rattle.line.proofs.LineLaws.{place-below, place-from}
 use Rattle.refusal.proofs.HeaderLaws.{never, accepted-false, both-accepted}
-use Rattle.sheet.specs.Layout.{header, from, ballot}
-use Rattle.sheet.specs.Chain.{Record, reached, Ends, Fate, leaves, again, ends}
-use Rattle.sheet.specs.Judgement.{misplaced, record-form, unmarked-sender, same-place, taken-before, duplicate, record-verdict, records-verdict, verdict-to-8, chain-verdict, sheet-verdict}
+use Rattle.layout.specs.Layout.{header, from, ballot}
+use Rattle.layout.specs.Chain.{Record, reached, Ends, Fate, leaves, again, ends}
+use Rattle.judgement.specs.Judgement.{misplaced, record-form, unmarked-sender, same-place, taken-before, duplicate, record-verdict, records-verdict, verdict-to-8, chain-verdict, sheet-verdict}
 use Rattle.sheet.specs.Reading.{place-of, filled, table-of}
-use Rattle.sheet.proofs.ChainLaws.{before-end}
+use Rattle.layout.proofs.ChainLaws.{before-end}
 use Rattle.sheet.proofs.PlaceLaws.{InPlace, in-place, place-inside, from-told, place-tells}
 
 module _ (s : List ℕ) where

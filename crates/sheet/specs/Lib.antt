@@ -1,8 +1,5 @@
--- The run sheet and what reading it gives (document 01, "The run sheet" and "Refused causes"), in the document's order. Reading has what the call
--- promises, Theorems what is shown of the definitions; Loops is for private functions only.
-pub mod Layout
-pub mod Chain
-pub mod Judgement
+-- What reading a run sheet gives (document 01, "The run sheet"): Reading has what the call promises, Theorems what is shown of the definitions; Loops is
+-- for private functions only.
 pub mod Reading
 pub mod Theorems
 pub mod Loops

@@ -1,30 +1,29 @@
 -- What the private functions of the reader do: for their contracts, and no part of what the public call promises.
-use Prim.Native.Nat.{ℕ, zero, suc, _+_, _*_, _≤_}
+use Prim.Native.Nat.{ℕ, zero, suc, _/_, _%_, _^_, _≤_, _<_}
 use mathlib.Core.Path.{_≡_}
-use mathlib.Core.Bool.{false}
+use mathlib.Core.Bool.{Bool}
 use mathlib.Core.List.{List}
-use lib.Dec.{eqb}
+use lib.Bits.{bitOr}
+use lib.Dec.{ltb}
 use lib.ListN.{length, getD, set, replicate}
-use Rattle.line.specs.Line.{rounds, table-length, largest-table}
-use Rattle.refusal.specs.Cause.{refused-if, _or-else_, written}
+use Rattle.line.specs.Count.{if_then_else_}
+use Rattle.line.specs.Line.{from-0, rounds, place}
+use Rattle.line.specs.Marks.{marked}
+use Rattle.line.specs.Ballot.{silence}
+use Rattle.refusal.specs.Cause.{refused-if, _or-else_}
 use Rattle.refusal.specs.Header.{Sound}
-use Rattle.refusal.specs.declared.cause.Cause.the-variants.{Duplicate}
+use Rattle.refusal.specs.declared.cause.Cause.the-variants.{ChainLeaves, ChainRepeats, Duplicate}
 use Rattle.refusal.specs.declared.cause.Verdict.{Verdict}
-use Rattle.refusal.specs.declared.cause.Verdict.the-variants.{Accepted}
-use Rattle.sheet.specs.declared.Header.{Header}
-use Rattle.sheet.specs.Layout.{header, records, most-records}
-use Rattle.sheet.specs.Chain.{Record, reached, Leaves, Again, Ends}
-use Rattle.sheet.specs.Judgement.{misplaced, record-form, unmarked-sender, records-verdict}
+use Rattle.refusal.specs.declared.cause.Verdict.the-variants.{Accepted, Refused}
+use Rattle.layout.specs.declared.Header.{Header}
+use Rattle.layout.specs.declared.Record.{Record}
+use Rattle.layout.specs.Layout.{header, records, most-records, ballot}
+use Rattle.layout.specs.Chain.{reached, Ends, Fate}
+use Rattle.judgement.specs.Judgement.{records-verdict, chain-verdict}
+use Rattle.judgement.specs.Numbers.{numbers-verdict}
 use Rattle.sheet.specs.Reading.{place-of}
-use Rattle.sheet.specs.declared.chain.Walked.{Walked}
-use Rattle.sheet.specs.declared.chain.Walked.the-variants as walked
-
--- ---- what is handed on
-
--- a sheet of the right length
-pub record Whole (s : List ℕ) : Type 0 where
-  pub whole : length s ≡ 12 + 8 * records s
-  pub most : records s ≤ most-records
+use Rattle.sheet.specs.declared.walk.Walked.{Walked}
+use Rattle.sheet.specs.declared.walk.Walked.the-variants as walked
 
 -- a header that causes 2 to 6 let through
 abbrev pub SoundHeader : Header → Type 0
@@ -32,56 +31,101 @@ SoundHeader h = Sound (h .n) (h .t) (h .upper) (h .sender) (h .value) (h .marks)
 
 -- a sheet that causes 1 to 6 let through, with its n, R and marks
 pub record Lined (s : List ℕ) (n last marks : ℕ) : Type 0 where
-  pub sheet-whole : Whole s
+  pub most : records s ≤ most-records
   pub sound : SoundHeader (header s)
   pub n-is : n ≡ header s .n
   pub last-is : last ≡ rounds (header s .t)
   pub marks-are : marks ≡ header s .marks
 
--- a record that cause 11 lets through, and the sheet's n
-pub record Placed (s : List ℕ) (i n : ℕ) : Type 0 where
-  pub sheet-whole : Whole s
-  pub sound : SoundHeader (header s)
-  pub n-is : n ≡ header s .n
-  pub a-record : Record s i
-  pub in-place : misplaced s i ≡ false
+-- ---- the places seen: a bit for each place of the largest table, 32 to a number
 
--- a sheet whose chain of m records is judged, and the table to fill
-pub record Fillable (s : List ℕ) (m n : ℕ) (table : List ℕ) : Type 0 where
-  pub sheet-whole : Whole s
-  pub sound : SoundHeader (header s)
-  pub n-is : n ≡ header s .n
-  pub chain : Ends s m
-  pub judged : records-verdict s m ≡ Accepted
-  pub table-whole : length table ≡ table-length (header s .n) (header s .t)
-
--- ---- the walk
-
--- what the walk tells holds
-abbrev pub Told : (s : List ℕ) → Walked → Type 0
-Told s walked.Leaves = Leaves s
-Told s walked.Repeats = Again s
-Told s (walked.Ends m) = Ends s m
-
--- ---- the places seen
-
--- a byte for each place of the largest table, 0 where no record was seen
 unfoldable pub unseen : List ℕ
-unseen = replicate largest-table 0
+unseen = replicate 1152 0
 
--- 1 at the places of the first m records of the chain
+unfoldable pub is-seen : List ℕ → ℕ → Bool
+is-seen places p = marked (getD places (p / 32) 0) (p % 32)
+
+unfoldable pub with-place : List ℕ → ℕ → List ℕ
+with-place places p = set places (p / 32) (bitOr (getD places (p / 32) 0) (2 ^ (p % 32)))
+
+-- those of the first m records of the chain
 unfoldable pub seen : List ℕ → ℕ → List ℕ
 seen s zero = unseen
-seen s (suc m) = set (seen s m) (place-of s (reached s m)) 1
+seen s (suc m) = with-place (seen s m) (place-of s (reached s m))
 
 -- refused if the place p was seen
 unfoldable pub looked : List ℕ → ℕ → Verdict
-looked places p = refused-if (eqb (getD places p 0) 1) Duplicate
+looked places p = refused-if (is-seen places p) Duplicate
 
--- and from then on it is
-unfoldable pub marked-seen : Verdict → List ℕ → ℕ → List ℕ
-marked-seen v places p = written v (set places p 1) places
+-- ---- one record
 
--- 11, 12 and 13 of the record with index i, by the places seen
-unfoldable pub record-by : List ℕ → ℕ → List ℕ → Verdict
-record-by s i places = record-form s i or-else unmarked-sender s i or-else looked places (place-of s i)
+-- its place, by its numbers
+unfoldable pub place-by : ℕ → Record → ℕ
+place-by n r = place n (r .round) (from-0 (r .from)) (from-0 (r .to))
+
+-- 11, 12 and 13, by the places seen
+unfoldable pub record-by : (n last marks : ℕ) → Record → List ℕ → Verdict
+record-by n last marks r places = numbers-verdict n last marks r or-else looked places (place-by n r)
+
+-- room for a record at position m, in a line that causes 2 and 3 let through
+pub record Roomy (n last m : ℕ) (seen places ballots : List ℕ) : Type 0 where
+  pub few : n ≤ 32
+  pub short : last ≤ 36
+  pub position : m < 4096
+  pub seen-length : length seen ≡ 1152
+  pub places-length : length places ≡ 4096
+  pub ballots-length : length ballots ≡ 4096
+
+-- a record taken at position m after this verdict: one that passes is seen, and its place and ballot are kept
+pub record Taken (before : Verdict) (n last marks : ℕ) (r : Record) (m : ℕ) (seen₀ places₀ ballots₀ seen₁ places₁ ballots₁ : List ℕ) (v : Verdict) : Type 0 where
+  pub verdict-is : v ≡ before or-else record-by n last marks r seen₀
+  pub seen-is : v ≡ Accepted → seen₁ ≡ with-place seen₀ (place-by n r)
+  pub places-are : v ≡ Accepted → places₁ ≡ set places₀ m (place-by n r)
+  pub ballots-are : v ≡ Accepted → ballots₁ ≡ set ballots₀ m (r .ballot)
+  pub seen-same : length seen₁ ≡ length seen₀
+  pub places-same : length places₁ ≡ length places₀
+  pub ballots-same : length ballots₁ ≡ length ballots₀
+
+-- ---- the walk
+
+-- the places and ballots of the first m records of the chain are kept
+abbrev pub Kept : List ℕ → ℕ → List ℕ → List ℕ → Type 0
+Kept s m places ballots =
+    (a : ℕ) → a < m → (getD places a 0 ≡ place-of s (reached s a)) × (getD ballots a 0 ≡ ballot s (reached s a))
+
+-- what index i at position m tells, after this verdict of the records before
+abbrev pub ended : ℕ → Verdict → Walked
+ended m Accepted = walked.Accepted m
+ended m (Refused c) = walked.Refused c
+
+unfoldable pub walked-by : (k i m : ℕ) → Verdict → Walked
+walked-by k i m v =
+    if ltb k i then walked.Refused ChainLeaves else (if ltb 0 i then walked.Refused ChainRepeats else ended m v)
+
+-- a chain of m records that pass, all kept
+pub record Whole (s : List ℕ) (m : ℕ) (places ballots : List ℕ) : Type 0 where
+  pub chain : Ends s m
+  pub most : m ≤ most-records
+  pub judged : records-verdict s m ≡ Accepted
+  pub kept : Kept s m places ballots
+  pub places-length : length places ≡ 4096
+  pub ballots-length : length ballots ≡ 4096
+
+-- what the walk tells holds
+abbrev pub Told : (s places ballots : List ℕ) → Walked → Type 0
+Told s places ballots (walked.Accepted m) = Whole s m places ballots
+Told s places ballots (walked.Refused c) = (f : Fate s) × (chain-verdict s f ≡ Refused c)
+
+-- ---- the table
+
+-- the first m places are in the table
+pub record Fillable (places ballots : List ℕ) (m : ℕ) (table : List ℕ) : Type 0 where
+  pub position : m ≤ 4096
+  pub places-length : length places ≡ 4096
+  pub ballots-length : length ballots ≡ 4096
+  pub inside : (a : ℕ) → a < m → getD places a 0 < length table
+
+-- 255 everywhere in a table of this length, then the first m ballots in their places
+unfoldable pub laid : (places ballots : List ℕ) (size m : ℕ) → List ℕ
+laid places ballots size zero = replicate size silence
+laid places ballots size (suc m) = set (laid places ballots size m) (getD places m 0) (getD ballots m 0)

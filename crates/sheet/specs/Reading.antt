@@ -8,12 +8,12 @@ use Rattle.line.specs.Ballot.{silence}
 use Rattle.refusal.specs.Cause.{number, code, written, given}
 use Rattle.refusal.specs.declared.cause.Verdict.{Verdict}
 use Rattle.refusal.specs.declared.cause.Verdict.the-variants as verdict
-use Rattle.sheet.specs.declared.Header.{Header}
+use Rattle.layout.specs.declared.Header.{Header}
 use Rattle.sheet.specs.declared.Reading.{Reading}
 use Rattle.sheet.specs.declared.Reading.the-variants as reading
-use Rattle.sheet.specs.Layout.{header, round, from, to, ballot}
-use Rattle.sheet.specs.Chain.{reached, Fate, leaves, again, ends}
-use Rattle.sheet.specs.Judgement.{sheet-verdict}
+use Rattle.layout.specs.Layout.{header, round, from, to, ballot}
+use Rattle.layout.specs.Chain.{reached, Fate, leaves, again, ends}
+use Rattle.judgement.specs.Judgement.{sheet-verdict}
 
 -- ---- the table
 

@@ -8,51 +8,16 @@ use lib.ListN.{length, getD}
 use Rattle.line.specs.Line.{rounds, table-length, place}
 use Rattle.line.specs.Marks.{marked}
 use Rattle.refusal.specs.declared.cause.Verdict.the-variants.{Accepted}
-use Rattle.sheet.specs.Layout.{byte, header, spare, most-records, records, start, ballot}
-use Rattle.sheet.specs.Chain.{Record, reached, Leaves, Again, Ends, Fate}
-use Rattle.sheet.specs.Judgement.{sheet-form, sheet-verdict}
+use Rattle.layout.specs.Layout.{byte, header, spare, most-records, records, start, ballot}
+use Rattle.layout.specs.Chain.{Record, reached, Leaves, Again, Ends, Fate}
+use Rattle.judgement.specs.Judgement.{sheet-form, sheet-verdict}
 use Rattle.sheet.specs.Reading.{place-of, table-of}
-
--- ---- the sheet's length
-
--- cause 1 lets a sheet through exactly if its length is 12 + 8k with k from 0 to 4,096 and byte 5 is zero; and then k is the number of records
-pub record WellFormed (s : List ℕ) (k : ℕ) : Type 0 where
-  pub length-is : length s ≡ 12 + 8 * k
-  pub most : k ≤ most-records
-  pub spare-zero : spare s ≡ 0
-
-abbrev pub Form-accepts : Type 0
-Form-accepts = (s : List ℕ) (k : ℕ) → WellFormed s k → (sheet-form s ≡ Accepted) × (records s ≡ k)
-
-abbrev pub Form-sound : Type 0
-Form-sound = (s : List ℕ) → sheet-form s ≡ Accepted → WellFormed s (records s)
 
 -- ---- the chain
 
--- every chain has a fate
-abbrev pub Has-fate : Type 0
-Has-fate = (s : List ℕ) → Fate s
-
--- "of which only one can arise": a chain that leaves repeats no record, and one that ends does neither
-abbrev pub Only-one : Type 0
-Only-one = (s : List ℕ) → (Leaves s → Again s → ⊥) × ((m : ℕ) → Ends s m → (Leaves s → ⊥) × (Again s → ⊥))
-
--- and so a sheet has one verdict and one table
+-- whatever shows a chain's fate (`Only-one` of layout), the sheet has one verdict and one table
 abbrev pub One-fate : Type 0
 One-fate = (s : List ℕ) (f g : Fate s) → ((l : ℕ) → sheet-verdict s l f ≡ sheet-verdict s l g) × (table-of s f ≡ table-of s g)
-
--- Walking k steps tells the fate: the index reached then is 0 exactly if the chain ends, above k exactly if the chain leaves, and otherwise, exactly
--- then, a record is reached again.
-pub record Walk-tells (s : List ℕ) : Type 0 where
-  pub zero-ends : reached s (records s) ≡ 0 → (m : ℕ) × Ends s m
-  pub ends-zero : (m : ℕ) → Ends s m → reached s (records s) ≡ 0
-  pub above-leaves : records s < reached s (records s) → Leaves s
-  pub leaves-above : Leaves s → records s < reached s (records s)
-  pub inside-repeats : Record s (reached s (records s)) → Again s
-  pub repeats-inside : Again s → Record s (reached s (records s))
-
-abbrev pub Walk : Type 0
-Walk = (s : List ℕ) → Walk-tells s
 
 -- ---- "A record outside the chain is ignored, its content too."
 

@@ -1,9 +1,8 @@
 // The table, written once every record is judged.
 ghost use mathlib.Core.Path.{_≡_};
 ghost use lib.ListN.{length, replicate};
-ghost use Rattle.sheet.specs.Reading.{filled};
-ghost use Rattle.sheet.specs.Loops.{Fillable};
-use crate::layout;
+ghost use Rattle.sheet.specs.Loops.{Fillable, laid};
+use crate::walk::RECORDS;
 use line::Line;
 
 // 255 everywhere.
@@ -17,18 +16,22 @@ fn silence(table: &mut [u8])
     }
 }
 
-// 255 everywhere, then the ballots of the chain's m records in their places.
-pub(crate) fn fill(sheet: &[u8], m: usize, n: u8, table: &mut [u8])
-    requires { ⌜ Fillable (now sheet) m n (now table) ⌝ }
-    ensures { λ _. ⌜ now (table .exit) ≡ filled (now (sheet .entry)) m ⌝ }
+fn wide(place: u16) -> usize
+    ensures { λ r. ⌜ r ≡ place ⌝ }
+{
+    place as usize
+}
+
+// 255 everywhere, then the first m ballots in their places.
+pub(crate) fn fill(places: &[u16; RECORDS], ballots: &[u8; RECORDS], m: usize, table: &mut [u8])
+    requires { ⌜ Fillable (now places) (now ballots) m (now table) ⌝ }
+    ensures { λ _. ⌜ now (table .exit) ≡ laid (now (places .entry)) (now (ballots .entry)) (length (now (table .entry))) m ⌝ }
 {
     silence(table);
-    let mut i = layout::first(sheet);
     let mut a: usize = 0;
     while a < m {
-        let p = layout::place_of(sheet, i, n);
-        table[p] = layout::field(sheet, i, 3);
-        i = layout::next(sheet, i);
+        let p = wide(places[a]);
+        table[p] = ballots[a];
         a += 1;
     }
 }

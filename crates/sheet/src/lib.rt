@@ -2,28 +2,17 @@
 ghost use mathlib.Core.Path.{_≡_};
 ghost use lib.ListN.{length};
 ghost use Rattle.refusal.specs.declared.cause.Verdict.the-variants.{Accepted};
-ghost use Rattle.sheet.specs.Judgement.{verdict-to-8};
-ghost use Rattle.sheet.specs.Chain.{Ends};
+ghost use Rattle.judgement.specs.Judgement.{verdict-to-8};
 ghost use Rattle.sheet.specs.Reading.{Reads};
-use crate::chain::Walked;
+use crate::walk::Walked;
+use layout::Header;
 use line::Line;
 use refusal::cause::Cause;
 use refusal::cause::Verdict;
 
-mod chain;
 mod fill;
-mod judge;
-mod layout;
-
-// The numbers of a sheet's header.
-pub struct Header {
-    pub n: u8,
-    pub t: u8,
-    pub upper: u8,
-    pub sender: u8,
-    pub value: u8,
-    pub marks: u32,
-}
+mod seen;
+mod walk;
 
 // The answer to reading a sheet.
 pub enum Reading {
@@ -31,38 +20,34 @@ pub enum Reading {
     Refused(Cause),
 }
 
-// A sheet whose chain ends after m records: all are judged before the first byte is written.
-fn read_records(sheet: &[u8], m: usize, table: &mut [u8]) -> Reading
-    requires { ⌜ (verdict-to-8 (now sheet) (length (now table)) ≡ Accepted) × Ends (now sheet) m ⌝ }
+// A sheet that causes 1 to 8 let through: the whole chain is walked and each of its records judged before the first byte is written.
+fn read_chain(sheet: &[u8], table: &mut [u8]) -> Reading
+    requires { ⌜ verdict-to-8 (now sheet) (length (now table)) ≡ Accepted ⌝ }
     ensures { λ r. ⌜ Reads (now (sheet .entry)) (now (table .entry)) (now (table .exit)) r ⌝ }
 {
-    let header = layout::header(sheet);
+    let header = layout::header_of(sheet);
     let line = Line {
         n: header.n,
         t: header.t,
         upper: header.upper,
     };
     let last = line.rounds() as u8;
-    let verdict = judge::records(sheet, m, header.n, last, header.marks);
-    match verdict {
-        Verdict::Accepted => {
-            fill::fill(sheet, m, header.n, table);
+    let mut places = [0u16; walk::RECORDS];
+    let mut ballots = [0u8; walk::RECORDS];
+    let walked = walk::walk(
+        sheet,
+        header.n,
+        last,
+        header.marks,
+        &mut places,
+        &mut ballots,
+    );
+    match walked {
+        Walked::Accepted(m) => {
+            fill::fill(&places, &ballots, m, table);
             Reading::Accepted(header)
         }
-        Verdict::Refused(c) => Reading::Refused(c),
-    }
-}
-
-// A sheet that causes 1 to 8 let through: the whole chain is walked before any record is judged.
-fn read_chain(sheet: &[u8], table: &mut [u8]) -> Reading
-    requires { ⌜ verdict-to-8 (now sheet) (length (now table)) ≡ Accepted ⌝ }
-    ensures { λ r. ⌜ Reads (now (sheet .entry)) (now (table .entry)) (now (table .exit)) r ⌝ }
-{
-    let walked = chain::walk(sheet);
-    match walked {
-        Walked::Leaves => Reading::Refused(Cause::ChainLeaves),
-        Walked::Repeats => Reading::Refused(Cause::ChainRepeats),
-        Walked::Ends(m) => read_records(sheet, m, table),
+        Walked::Refused(c) => Reading::Refused(c),
     }
 }
 
@@ -70,7 +55,7 @@ fn read_chain(sheet: &[u8], table: &mut [u8]) -> Reading
 pub fn read(sheet: &[u8], table: &mut [u8]) -> Reading
     ensures { λ r. ⌜ Reads (now (sheet .entry)) (now (table .entry)) (now (table .exit)) r ⌝ }
 {
-    let verdict = judge::to_8(sheet, table.len());
+    let verdict = judgement::to_8(sheet, table.len());
     match verdict {
         Verdict::Accepted => read_chain(sheet, table),
         Verdict::Refused(c) => Reading::Refused(c),

@@ -1,6 +1,6 @@
 -- `wanted` meets its contract.
 use borrow.Author.Needs.{needs}
-use Rattle.sheet.specs.Layout.{header, byte}
+use Rattle.layout.specs.Layout.{header, byte}
 use Rattle.listing.proofs.wanted.Statement.{statement}
 use Rattle.listing.proofs.wanted.Tie as tie
 

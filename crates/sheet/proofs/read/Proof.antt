@@ -12,7 +12,7 @@ enum-told : tie.Need-enum-told
 enum-told c = search needs
 
 read-chain-requires : tie.Need-read-chain-requires
-read-chain-requires c κs = sym (c .before .before .before .to-8 .ensures) ∙ c .before .enum-told .given .1
+read-chain-requires c κs = sym (c .before .before .before .to-8 .ensures .answer-is) ∙ c .before .enum-told .given .1
 
 enum-known-verdict : tie.Need-enum-known-verdict
 enum-known-verdict c = search needs
@@ -24,7 +24,7 @@ returns : tie.Need-returns
 returns c = search needs
 
 returns-2 : tie.Need-returns-2
-returns-2 c = refused-opening _ _ _ (sym (c .before .before .before .to-8 .ensures) ∙ c .before .verdict .given .1)
+returns-2 c = refused-opening _ _ _ (sym (c .before .before .before .to-8 .ensures .answer-is) ∙ c .before .verdict .given .1)
 
 pub read-spec : {M : Type 1} → statement M
 read-spec =

@@ -1,0 +1,70 @@
+-- Laws of a record's judgement: what cause 11 lets through, and the numbers handed on judged as the sheet's record. Assumes nothing.
+use Prim.Native.Nat.{ℕ, _≤_}
+use mathlib.Core.Path.{_≡_}
+use mathlib.Core.Bool.{false, not, _||_}
+use mathlib.Core.List.{List}
+use lib.Dec.{eqb}
+use borrow.Author.Tests.{eqb-true, not-false}
+use Rattle.line.specs.Line.{rounds}
+use Rattle.refusal.specs.Cause.{_or-else_}
+use Rattle.refusal.specs.Header.{outside}
+use Rattle.refusal.specs.declared.cause.Verdict.the-variants.{Accepted}
+use Rattle.refusal.proofs.HeaderLaws.{inside, neither, accepted-false, both-accepted}
+use Rattle.layout.specs.Layout.{header}
+use Rattle.layout.specs.Chain.{Record}
+use Rattle.layout.specs.Numbers.{record-at}
+use Rattle.layout.specs.declared.Record as numbers
+use Rattle.layout.proofs.LayoutLaws.{round-is, from-is, to-is, rest-is}
+use Rattle.judgement.specs.Judgement.{misplaced, record-form, unmarked-sender}
+use Rattle.judgement.specs.Numbers.{out-of-place, numbers-verdict}
+
+-- a record's numbers in their ranges
+pub record InRange (n last round from to rest : ℕ) : Type 0 where
+  pub round-low : 1 ≤ round
+  pub round-high : round ≤ last
+  pub from-low : 1 ≤ from
+  pub from-high : from ≤ n
+  pub to-low : 1 ≤ to
+  pub to-high : to ≤ n
+  pub rest-zero : rest ≡ 0
+
+-- what cause 11 lets through is in its ranges
+pub in-range : (n last round from to rest : ℕ)
+    → outside 1 last round || outside 1 n from || outside 1 n to || not (eqb rest 0) ≡ false → InRange n last round from to rest
+in-range n last round from to rest e =
+    let o₁ = outside 1 last round in
+    let o₂ = outside 1 n from in
+    let o₃ = outside 1 n to in
+    let blank = eqb rest 0 in
+    let (e₂, d) = neither (o₁ || o₂ || o₃) (not blank) e in
+    let (e₃, c) = neither (o₁ || o₂) o₃ e₂ in
+    let (a, b) = neither o₁ o₂ e₃ in
+    let r = inside 1 last round a in
+    let f = inside 1 n from b in
+    let t = inside 1 n to c in
+    record {
+      round-low = r .0;
+      round-high = r .1;
+      from-low = f .0;
+      from-high = f .1;
+      to-low = t .0;
+      to-high = t .1;
+      rest-zero = eqb-true rest 0 (not-false blank d);
+    }
+
+-- ---- the numbers handed on
+
+module _ (n last : ℕ) (r : numbers.Record) where
+  pub numbers-in-range : out-of-place n last r ≡ false → InRange n last (r .round) (r .from) (r .to) (r .rest)
+  unfolding out-of-place
+  numbers-in-range e = in-range n last (r .round) (r .from) (r .to) (r .rest) e
+
+  pub accepted-in-range : (marks : ℕ) → numbers-verdict n last marks r ≡ Accepted → InRange n last (r .round) (r .from) (r .to) (r .rest)
+  unfolding numbers-verdict
+  accepted-in-range marks e = numbers-in-range (accepted-false _ _ (both-accepted _ _ e .0))
+
+-- a record of a sheet, judged by its numbers
+pub judged-by-numbers : (s : List ℕ) (i : ℕ) → Record s i
+    → numbers-verdict (header s .n) (rounds (header s .t)) (header s .marks) (record-at s i) ≡ record-form s i or-else unmarked-sender s i
+unfolding numbers-verdict out-of-place record-form misplaced unmarked-sender
+judged-by-numbers s i r = rw (round-is s i r, from-is s i r, to-is s i r, rest-is s i r)

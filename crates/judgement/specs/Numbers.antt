@@ -1,0 +1,25 @@
+-- Causes 11 and 12 of a record's numbers, as the code hands them on: of a record in a sheet they are `record-form` and `unmarked-sender` of Judgement.
+use Prim.Native.Nat.{ℕ}
+use mathlib.Core.Bool.{Bool, not, _||_}
+use lib.Dec.{eqb}
+use Rattle.line.specs.Line.{from-0}
+use Rattle.line.specs.Marks.{marked}
+use Rattle.refusal.specs.Cause.{refused-if, _or-else_}
+use Rattle.refusal.specs.Header.{outside}
+use Rattle.refusal.specs.declared.cause.Cause.the-variants.{RecordForm, UnmarkedSender}
+use Rattle.refusal.specs.declared.cause.Verdict.{Verdict}
+use Rattle.layout.specs.declared.Record.{Record}
+
+-- "a record's round outside 1 to R, a station outside 1 to n, or its last two bytes not zero"
+unfoldable pub out-of-place : (n last : ℕ) → Record → Bool
+out-of-place n last r =
+    outside 1 last (r .round)
+    || outside 1 n (r .from)
+    || outside 1 n (r .to)
+    || not (eqb (r .rest) 0)
+
+-- "a record's from is not marked", after that
+unfoldable pub numbers-verdict : (n last marks : ℕ) → Record → Verdict
+numbers-verdict n last marks r =
+    refused-if (out-of-place n last r) RecordForm
+    or-else refused-if (not (marked marks (from-0 (r .from)))) UnmarkedSender

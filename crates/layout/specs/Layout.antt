@@ -1,0 +1,60 @@
+-- The run sheet, byte by byte (document 01, "The run sheet"). A sheet is the list of its bytes; past its end the definitions read zeros, which have
+-- no effect, since a sheet whose length is wrong is refused for that.
+use Prim.Native.Nat.{ℕ, _+_, _-_, _*_, _/_}
+use mathlib.Core.List.{List}
+use lib.ListN.{length, getD}
+use Rattle.layout.specs.declared.Header.{Header}
+
+unfoldable pub byte : List ℕ → ℕ → ℕ
+byte s i = getD s i 0
+
+-- "Two-byte and four-byte numbers are low byte first."
+unfoldable pub two : List ℕ → ℕ → ℕ
+two s i = byte s i + 256 * byte s (i + 1)
+
+unfoldable pub four : List ℕ → ℕ → ℕ
+four s i = two s i + 65536 * two s (i + 2)
+
+-- "Header: byte 0 n, 1 t, 2 T, 3 sender, 4 value, [..] 8–11 the marks"
+unfoldable pub header : List ℕ → Header
+header s =
+    record { n = byte s 0; t = byte s 1; upper = byte s 2; sender = byte s 3; value = byte s 4; marks = four s 8 }
+
+-- "5 zero"
+unfoldable pub spare : List ℕ → ℕ
+spare s = byte s 5
+
+-- "6–7 index of the first record or 0"
+unfoldable pub first : List ℕ → ℕ
+first s = two s 6
+
+-- "k at most 4,096"
+abbrev pub most-records : ℕ
+most-records = 4096
+
+-- "Then k records of 8 bytes": k, by the sheet's length
+unfoldable pub records : List ℕ → ℕ
+records s = (length s - 12) / 8
+
+-- "record 1 at byte 12"
+unfoldable pub start : ℕ → ℕ
+start i = 12 + 8 * (i - 1)
+
+-- "round, from, to, ballot, next index (two bytes), two zero bytes": of the record with index i
+unfoldable pub round : List ℕ → ℕ → ℕ
+round s i = byte s (start i)
+
+unfoldable pub from : List ℕ → ℕ → ℕ
+from s i = byte s (start i + 1)
+
+unfoldable pub to : List ℕ → ℕ → ℕ
+to s i = byte s (start i + 2)
+
+unfoldable pub ballot : List ℕ → ℕ → ℕ
+ballot s i = byte s (start i + 3)
+
+unfoldable pub next : List ℕ → ℕ → ℕ
+next s i = two s (start i + 4)
+
+unfoldable pub rest : List ℕ → ℕ → ℕ
+rest s i = two s (start i + 6)

@@ -1,0 +1,123 @@
+// The run sheet byte by byte: the header's numbers, and the records by their indices. Past the sheet's end zeros are read.
+ghost use mathlib.Core.Path.{_≡_};
+ghost use Prim.Native.Nat.{_+_, _*_, _<_, _≤_};
+ghost use lib.ListN.{length};
+ghost use Rattle.layout.specs.Layout.{byte, header, spare, first, records};
+ghost use Rattle.layout.specs.Numbers.{numbers-from, no-numbers, record-at};
+
+// The numbers of a sheet's header.
+pub struct Header {
+    pub n: u8,
+    pub t: u8,
+    pub upper: u8,
+    pub sender: u8,
+    pub value: u8,
+    pub marks: u32,
+}
+
+// The numbers of a record. `rest` is its last two bytes.
+pub struct Record {
+    pub round: u8,
+    pub from: u8,
+    pub to: u8,
+    pub ballot: u8,
+    pub next: u16,
+    pub rest: u16,
+}
+
+// A two-byte number, of its bytes.
+fn two(low: u8, high: u8) -> u16
+    ensures { λ r. ⌜ r ≡ low + 256 * high ⌝ }
+{
+    (low as u16) + 256 * (high as u16)
+}
+
+// A byte of the sheet.
+fn byte(sheet: &[u8], at: usize) -> u8
+    ensures { λ r. ⌜ r ≡ byte (now (sheet .entry)) at ⌝ }
+{
+    if at < sheet.len() { sheet[at] } else { 0 }
+}
+
+// The header's numbers.
+pub fn header_of(sheet: &[u8]) -> Header
+    ensures { λ r. ⌜ r ≡ header (now (sheet .entry)) ⌝ }
+{
+    let low = two(byte(sheet, 8), byte(sheet, 9));
+    let high = two(byte(sheet, 10), byte(sheet, 11));
+    Header {
+        n: byte(sheet, 0),
+        t: byte(sheet, 1),
+        upper: byte(sheet, 2),
+        sender: byte(sheet, 3),
+        value: byte(sheet, 4),
+        marks: (low as u32) + 65536 * (high as u32),
+    }
+}
+
+// Byte 5, which is to be zero.
+pub fn spare(sheet: &[u8]) -> u8
+    ensures { λ r. ⌜ r ≡ spare (now (sheet .entry)) ⌝ }
+{
+    byte(sheet, 5)
+}
+
+// The index of the first record, or 0.
+pub fn first(sheet: &[u8]) -> u16
+    ensures { λ r. ⌜ r ≡ first (now (sheet .entry)) ⌝ }
+{
+    two(byte(sheet, 6), byte(sheet, 7))
+}
+
+// k, the number of records that the sheet's length has room for.
+pub fn records(sheet: &[u8]) -> usize
+    ensures { λ r. ⌜ r ≡ records (now (sheet .entry)) ⌝ }
+{
+    let bytes = sheet.len();
+    if bytes < 12 {
+        return 0;
+    }
+    (bytes - 12) / 8
+}
+
+// The numbers of the record that starts at a byte.
+fn numbers(sheet: &[u8], at: usize) -> Record
+    requires { ⌜ at + 8 ≤ length (now sheet) ⌝ }
+    ensures { λ r. ⌜ r ≡ numbers-from (now (sheet .entry)) at ⌝ }
+{
+    Record {
+        round: sheet[at],
+        from: sheet[at + 1],
+        to: sheet[at + 2],
+        ballot: sheet[at + 3],
+        next: two(sheet[at + 4], sheet[at + 5]),
+        rest: two(sheet[at + 6], sheet[at + 7]),
+    }
+}
+
+// No record's numbers.
+fn nothing() -> Record
+    ensures { λ r. ⌜ r ≡ no-numbers ⌝ }
+{
+    Record {
+        round: 0,
+        from: 0,
+        to: 0,
+        ballot: 0,
+        next: 0,
+        rest: 0,
+    }
+}
+
+// The numbers of the record with index i; zeros where no record has that index.
+pub fn record_at(sheet: &[u8], i: usize) -> Record
+    ensures { λ r. ⌜ r ≡ record-at (now (sheet .entry)) i ⌝ }
+{
+    if i < 1 {
+        return nothing();
+    }
+    if records(sheet) < i {
+        return nothing();
+    }
+    numbers(sheet, 12 + 8 * (i - 1))
+}

@@ -1,0 +1,51 @@
+-- `seen::look` meets its contract: the place was seen, or is seen from now on.
+use borrow.Author.Needs.{needs}
+use mathlib.Core.Path.{refl, sym, _∙_}
+use Rattle.refusal.proofs.HeaderLaws.{refused-true, refused-false}
+use Rattle.sheet.specs.Loops.{looked, is-seen, with-place}
+use Rattle.sheet.proofs.seen.look.Statement.{statement}
+use Rattle.sheet.proofs.seen.look.Tie as tie
+
+mul-word : tie.Need-mul-word
+mul-word c = search needs
+
+element-copy-out-word : tie.Need-element-copy-out-word
+element-copy-out-word c = search needs
+
+cast-bit : tie.Need-cast-bit
+cast-bit c = search needs
+
+is-marked-requires : tie.Need-is-marked-requires
+is-marked-requires c κs = search needs
+
+returns : tie.Need-returns
+unfolding looked is-seen
+returns c = (sym (refused-true _ (sym (c .before .is-marked .ensures) ∙ c .if1 .taken)), refl)
+
+with-mark-requires : tie.Need-with-mark-requires
+with-mark-requires c κs = search needs
+
+mul-seen : tie.Need-mul-seen
+mul-seen c = search needs
+
+element-write-seen : tie.Need-element-write-seen
+element-write-seen c = search needs
+
+returns-2 : tie.Need-returns-2
+unfolding looked is-seen with-place
+returns-2 c =
+    (sym (refused-false _ (sym (c .before .before .is-marked .ensures) ∙ c .before .if1 .left)), rw (c .with-mark .ensures))
+
+pub look-spec : {M : Type 1} → statement M
+look-spec =
+    tie.close
+    (tie.spec
+    mul-word
+    element-copy-out-word
+    cast-bit
+    is-marked-requires
+    returns
+    with-mark-requires
+    mul-seen
+    element-write-seen
+    returns-2)

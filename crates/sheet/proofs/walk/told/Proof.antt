@@ -1,0 +1,40 @@
+-- `walk::told` meets its contract: one test after the other.
+use borrow.Author.Needs.{needs}
+use borrow.Author.Tests.{lt-ltb, le-ltb}
+use Rattle.sheet.specs.Loops.{walked-by}
+use Rattle.sheet.proofs.walk.told.Statement.{statement}
+use Rattle.sheet.proofs.walk.told.Tie as tie
+
+returns : tie.Need-returns
+unfolding walked-by
+returns c = rw (lt-ltb (c .before .args .k) (c .before .args .i) (c .if1 .taken))
+
+returns-2 : tie.Need-returns-2
+unfolding walked-by
+returns-2 c =
+    let k = c .before .before .args .k in
+    let i = c .before .before .args .i in
+    rw (le-ltb k i (c .before .if1 .left), lt-ltb 0 i (c .if2 .taken))
+
+enum-told : tie.Need-enum-told
+enum-told c = search needs
+
+enum-known-verdict : tie.Need-enum-known-verdict
+enum-known-verdict c = search needs
+
+returns-3 : tie.Need-returns-3
+unfolding walked-by
+returns-3 c =
+    let k = c .before .before .before .before .args .k in
+    let i = c .before .before .before .before .args .i in
+    rw (le-ltb k i (c .before .before .before .if1 .left), le-ltb 0 i (c .before .before .if2 .left), c .enum-told .given .1)
+
+returns-4 : tie.Need-returns-4
+unfolding walked-by
+returns-4 c =
+    let k = c .before .before .before .before .before .args .k in
+    let i = c .before .before .before .before .before .args .i in
+    rw (le-ltb k i (c .before .before .before .before .if1 .left), le-ltb 0 i (c .before .before .before .if2 .left), c .before .verdict .given .1)
+
+pub told-spec : {M : Type 1} → statement M
+told-spec = tie.close (tie.spec returns returns-2 enum-told enum-known-verdict returns-3 returns-4)

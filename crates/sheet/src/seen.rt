@@ -1,0 +1,34 @@
+// The places of the table that records were seen at: a bit for each, 32 to a number.
+ghost use mathlib.Core.Path.{_≡_};
+ghost use Prim.Native.Nat.{_^_, _<_};
+ghost use lib.Bits.{bitOr};
+ghost use lib.ListN.{length};
+ghost use Rattle.refusal.specs.Cause.{written};
+ghost use Rattle.sheet.specs.Loops.{looked, with-place};
+use line::marks;
+use refusal::cause::Cause;
+use refusal::cause::Verdict;
+
+// The numbers that have a bit for each place of the largest table.
+pub(crate) const WORDS: usize = 1152;
+
+fn with_mark(word: u32, bit: u8) -> u32
+    requires { ⌜ bit < 32 ⌝ }
+    ensures { λ r. ⌜ r ≡ bitOr word (2 ^ bit) ⌝ }
+{
+    word | 1u32 << bit
+}
+
+// Cause 13, by the places seen before. A place that passes is seen from now on.
+pub(crate) fn look(seen: &mut [u32; WORDS], p: usize) -> Verdict
+    requires { ⌜ (p < 36864) × (length (now seen) ≡ 1152) ⌝ }
+    ensures { λ r. ⌜ (r ≡ looked (now (seen .entry)) p) × (now (seen .exit) ≡ written r (with-place (now (seen .entry)) p) (now (seen .entry))) ⌝ }
+{
+    let word = seen[p / 32];
+    let bit = (p % 32) as u8;
+    if marks::is_marked(word, bit) {
+        return Verdict::Refused(Cause::Duplicate);
+    }
+    seen[p / 32] = with_mark(word, bit);
+    Verdict::Accepted
+}
