@@ -1,6 +1,6 @@
 -- Laws of the places seen: they tell whether an earlier record of the chain has the same round, from and to. Assumes nothing.
 use Prim.Native.Nat.{ℕ, zero, suc, _+_, _/_, _%_, _<_}
-use mathlib.Core.Path.{_≡_, refl, sym, ap, _∙_}
+use mathlib.Core.Path.{_≡_, refl, sym, _∙_}
 use mathlib.Core.Bool.{Bool, true, false}
 use mathlib.Core.Logic.{⊎-elim}
 use mathlib.Core.List.{List}
@@ -11,7 +11,6 @@ use lib.Pow.{pow-pos}
 use borrow.Author.Tests.{lt-ltb}
 use lib.ListN.{length, length-set, length-replicate, getD-replicate}
 use Rattle.line.specs.Line.{largest-table}
-use Rattle.line.specs.Marks.{marked}
 use Rattle.line.specs.Count.{count}
 use Rattle.line.proofs.MarksLaws.{marked-above}
 use Rattle.refusal.specs.Cause.{refused-if, _or-else_}

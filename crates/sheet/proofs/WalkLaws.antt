@@ -1,40 +1,47 @@
 -- Laws of the walk: what holds along it, one record more, and what it tells at its end. Assumes nothing.
 use Prim.Native.Nat.{ℕ, zero, suc, _+_, _-_, _≤_, _<_}
 use mathlib.Core.Path.{_≡_, refl, sym, ap, _∙_}
+use mathlib.Core.Bool.{Bool, true, false, _||_}
 use mathlib.Core.Logic.{_≢_, _⊎_, inl, inr, ⊎-elim}
 use mathlib.Core.List.{List}
 use native.Mathlib.Nat.{eq-or-lt-of-le, lt-of-lt-of-le, mul-le-mul}
 use native.Mathlib.Numerals.{add-one}
 use native.Mathlib.Omega.{arith}
-use lib.Dec.{ltb}
+use lib.Dec.{ltb, eqb}
 use lib.ListN.{length, getD, set, replicate, length-set, length-replicate}
 use lib.Seq.{getD-set-same, getD-set-other}
-use borrow.Author.Tests.{lt-ltb, le-ltb}
+use borrow.Author.Tests.{lt-ltb, le-ltb, eqb-true, eqb-false, ltb-true, ltb-false}
 use Rattle.line.specs.Line.{table-length, largest-table}
 use Rattle.line.proofs.LineLaws.{place-below}
 use Rattle.line.proofs.CountLaws.{le-or-lt}
-use Rattle.refusal.specs.Cause.{_or-else_, written}
+use Rattle.refusal.specs.Cause.{_or-else_}
 use Rattle.refusal.specs.declared.cause.Cause.{Cause}
+use Rattle.refusal.specs.declared.cause.Cause.the-variants.{ChainLeaves, ChainRepeats}
 use Rattle.refusal.specs.declared.cause.Verdict.{Verdict}
 use Rattle.refusal.specs.declared.cause.Verdict.the-variants.{Accepted, Refused}
-use Rattle.refusal.proofs.HeaderLaws.{both-accepted}
+use Rattle.refusal.proofs.HeaderLaws.{neither}
 use Rattle.layout.specs.Layout.{header, records, ballot, next, first}
-use Rattle.layout.specs.Chain.{Record, reached, leaves, again, ends}
+use Rattle.layout.specs.Chain.{Record, reached, Fate, leaves, again, ends}
 use Rattle.layout.specs.Numbers.{record-at}
 use Rattle.layout.specs.declared.Record as numbers
 use Rattle.layout.proofs.LayoutLaws.{round-is, from-is, to-is, ballot-is, next-is}
 use Rattle.layout.proofs.ChainLaws.{Over, Chained, not-both, goes-on, one-more, inside-again}
-use Rattle.judgement.specs.Judgement.{record-form, unmarked-sender, record-verdict, records-verdict}
+use Rattle.judgement.specs.Judgement.{record-verdict, records-verdict, chain-verdict}
 use Rattle.judgement.proofs.RangeLaws.{InRange, judged-by-numbers}
 use Rattle.sheet.specs.Reading.{place-of, filled}
 use Rattle.sheet.specs.Loops as loops
-use Rattle.sheet.specs.Loops.{Lined, place-by, record-by, looked, with-place, Taken, Kept, ended, walked-by, Whole, Told, laid}
+use Rattle.sheet.specs.Loops.{Lined, place-by, record-by, Taken, is-over, walked-by, Hit, Kept, Whole, Told, Fated, laid}
+use Rattle.sheet.specs.declared.walk.Walked.{Walked}
 use Rattle.sheet.specs.declared.walk.Walked.the-variants as walked
 use Rattle.sheet.proofs.PlaceLaws.{place-inside}
 use Rattle.sheet.proofs.TableLaws.{judged, judged-place}
-use Rattle.sheet.proofs.SeenLaws.{with-length, seen-length, judged-by-seen}
+use Rattle.sheet.proofs.SeenLaws.{judged-by-seen}
 
--- ---- verdicts
+-- ---- verdicts and tests
+
+either : (a b : Bool) → a || b ≡ true → (a ≡ true) ⊎ (b ≡ true)
+either true b e = inl refl
+either false b e = inr e
 
 or-else-joins : (a b c : Verdict) → (a or-else b) or-else c ≡ a or-else b or-else c
 or-else-joins Accepted b c = refl
@@ -49,11 +56,6 @@ place-most n last r w few short =
     lt-of-lt-of-le
     (place-below n (r .round) (r .from - 1) (r .to - 1) (w .round-low) (omega (arith, w .from-low, w .from-high)) (omega (arith, w .to-low, w .to-high)) last (w .round-high))
     (mul-le-mul (mul-le-mul short few) few)
-
--- whatever is found, as many numbers tell the places seen
-pub looked-length : (v : Verdict) (l : List ℕ) (p : ℕ) → length (written v (with-place l p) l) ≡ length l
-looked-length Accepted l p = with-length l p
-looked-length (Refused c) l p = refl
 
 -- a table of silence is as long as was asked for
 pub silent-length : (table : List ℕ) (size : ℕ) → table ≡ replicate size 255 → length table ≡ size
@@ -88,37 +90,41 @@ module _ (s : List ℕ) where
     record-is places e v =
         rw (is, e, line .n-is, line .last-is, line .marks-are, judged-by-numbers s i here, place-same i here, or-else-joins, q) (judged-by-seen s a v (line .sound))
 
-    -- one verdict more: the first hit stays
-    pub verdict-turn : (before after : Verdict) (places : List ℕ) → before ≡ records-verdict s a → (before ≡ Accepted → places ≡ loops.seen s a)
-        → after ≡ before or-else record-by n last marks r places → after ≡ records-verdict s (a + 1)
-    unfolding records-verdict
-    verdict-turn Accepted after places v e w =
-        w ∙ record-is places (e refl) (sym v) ∙ rw (add-one, ← v)
-    verdict-turn (Refused c) after places v e w = w ∙ rw (add-one, ← v)
+  -- one verdict more
+  verdict-pass : (a : ℕ) → records-verdict s a ≡ Accepted → record-verdict s a ≡ Accepted → records-verdict s (a + 1) ≡ Accepted
+  unfolding records-verdict
+  verdict-pass a v w = rw (add-one, v, w)
+
+  verdict-hit : (a : ℕ) (c : Cause) → records-verdict s a ≡ Accepted → record-verdict s a ≡ Refused c → records-verdict s (a + 1) ≡ Refused c
+  unfolding records-verdict
+  verdict-hit a c v w = rw (add-one, v, w)
+
+  -- the first hit stays
+  verdict-stays : (a : ℕ) (c : Cause) → records-verdict s a ≡ Refused c → records-verdict s (a + 1) ≡ Refused c
+  unfolding records-verdict
+  verdict-stays a c v = rw (add-one, v)
 
   -- ---- along the walk
 
-  -- what holds at position m: no record before it leaves the chain, the verdict is theirs, and where they pass all are seen and kept
-  pub record Going (m i : ℕ) (seen places ballots : List ℕ) (v : Verdict) : Type 0 where
+  -- what holds at position m: the records before it pass, and all are seen and kept
+  pub record Going (m i : ℕ) (seen places ballots : List ℕ) : Type 0 where
     pub at : i ≡ reached s m
     pub chained : Chained s m
-    pub verdict-is : v ≡ records-verdict s m
-    pub seen-is : v ≡ Accepted → seen ≡ loops.seen s m
-    pub kept : v ≡ Accepted → Kept s m places ballots
-    pub seen-length : length seen ≡ 1152
+    pub judged-all : records-verdict s m ≡ Accepted
+    pub seen-is : seen ≡ loops.seen s m
+    pub kept : Kept s m places ballots
     pub places-length : length places ≡ 4096
     pub ballots-length : length ballots ≡ 4096
 
   -- at the start
-  pub going-start : (places ballots : List ℕ) → length places ≡ 4096 → length ballots ≡ 4096 → Going 0 (first s) loops.unseen places ballots Accepted
+  pub going-start : (places ballots : List ℕ) → length places ≡ 4096 → length ballots ≡ 4096 → Going 0 (first s) loops.unseen places ballots
   unfolding reached records-verdict loops.seen
   going-start places ballots p b = record {
     at = refl;
     chained = λ a l. absurd (omega arith);
-    verdict-is = refl;
-    seen-is = λ e. refl;
-    kept = λ e a l. absurd (omega arith);
-    seen-length = seen-length s 0;
+    judged-all = refl;
+    seen-is = refl;
+    kept = λ a l. absurd (omega arith);
     places-length = p;
     ballots-length = b;
   }
@@ -135,68 +141,112 @@ module _ (s : List ℕ) where
       (rw getD-set-other (k a h .0), rw getD-set-other (k a h .1)))
       (eq-or-lt-of-le le)
 
-  module _ (n last marks : ℕ) (line : Lined s n last marks) (m i : ℕ) (seen₀ places₀ ballots₀ : List ℕ) (v₀ : Verdict) (g : Going m i seen₀ places₀ ballots₀ v₀)
-      (here : Record s i) (room : m < 4096) (r : numbers.Record) (is : r ≡ record-at s i) where
-    -- its place and its ballot
+  module _ (n last marks : ℕ) (line : Lined s n last marks) (m i : ℕ) (seen₀ places₀ ballots₀ : List ℕ) (g : Going m i seen₀ places₀ ballots₀)
+      (here : Record s i) (room : m < records s) (r : numbers.Record) (is : r ≡ record-at s i) where
+    -- its place, its ballot and its next index
     place-here : place-by n r ≡ place-of s (reached s m)
     place-here = rw (is, line .n-is) (place-same i here ∙ ap (place-of s) (g .at))
 
     ballot-here : r .ballot ≡ ballot s (reached s m)
     ballot-here = rw is (ballot-is s i here ∙ ap (ballot s) (g .at))
 
-    next-here : r .next ≡ next s i
-    next-here = rw is (next-is s i here)
+    next-here : r .next ≡ reached s (m + 1)
+    next-here = goes-on s m i (r .next) (g .at) here (rw is (next-is s i here))
 
-    -- one record more
-    pub going-turn : (seen₁ places₁ ballots₁ : List ℕ) (v₁ : Verdict) → Taken v₀ n last marks r m seen₀ places₀ ballots₀ seen₁ places₁ ballots₁ v₁
-        → Going (m + 1) (r .next) seen₁ places₁ ballots₁ v₁
-    unfolding loops.seen
-    going-turn seen₁ places₁ ballots₁ v₁ t =
-        let before : v₁ ≡ Accepted → v₀ ≡ Accepted = λ e. both-accepted v₀ (record-by n last marks r seen₀) (sym (t .verdict-is) ∙ e) .0 in
-        let p : m < length places₀ = omega (arith, g .places-length) in
-        let b : m < length ballots₀ = omega (arith, g .ballots-length) in
-        record {
-          at = goes-on s m i (r .next) (g .at) here next-here;
-          chained = one-more s m (g .chained) (rw (← g .at) here);
-          verdict-is = verdict-turn n last marks line m i r (g .at) here is v₀ v₁ seen₀ (g .verdict-is) (g .seen-is) (t .verdict-is);
-          seen-is = λ e. t .seen-is e ∙ rw (add-one, place-here, g .seen-is (before e));
-          kept = λ e. rw (t .places-are e, t .ballots-are e, place-here, ballot-here) (kept-turn m places₀ ballots₀ p b (g .kept (before e)));
-          seen-length = t .seen-same ∙ g .seen-length;
-          places-length = t .places-same ∙ g .places-length;
-          ballots-length = t .ballots-same ∙ g .ballots-length;
-        }
+    chained-here : Chained s (m + 1)
+    chained-here = one-more s m (g .chained) (rw (← g .at) here)
+
+    module _ (seen₁ places₁ ballots₁ : List ℕ) (v : Verdict) (t : Taken n last marks r m seen₀ places₀ ballots₀ seen₁ places₁ ballots₁ v) where
+      verdict-here : record-verdict s m ≡ v
+      verdict-here = sym (record-is n last marks line m i r (g .at) here is seen₀ (g .seen-is) (g .judged-all)) ∙ sym (t .verdict-is)
+
+      -- one record more that passes
+      pub going-turn : v ≡ Accepted → Going (m + 1) (r .next) seen₁ places₁ ballots₁
+      unfolding loops.seen
+      going-turn e =
+          let p : m < length places₀ = omega (arith, g .places-length, line .most) in
+          let b : m < length ballots₀ = omega (arith, g .ballots-length, line .most) in
+          record {
+            at = next-here;
+            chained = chained-here;
+            judged-all = verdict-pass m (g .judged-all) (verdict-here ∙ e);
+            seen-is = t .seen-is e ∙ rw (add-one, place-here, g .seen-is);
+            kept = rw (t .places-are e, t .ballots-are e, place-here, ballot-here) (kept-turn m places₀ ballots₀ p b (g .kept));
+            places-length = rw (t .places-are e) (simp length-set (g .places-length));
+            ballots-length = rw (t .ballots-are e) (simp length-set (g .ballots-length));
+          }
+
+      -- and the first that does not
+      pub going-hit : (c : Cause) → v ≡ Refused c → Hit s (m + 1) (r .next) c
+      going-hit c e = record {
+        position = omega arith;
+        at = next-here;
+        chained = chained-here;
+        judged = verdict-hit m c (g .judged-all) (verdict-here ∙ e);
+      }
+
+  -- one record more after it
+  pub hit-turn : (m i : ℕ) (c : Cause) → Hit s m i c → Record s i → m < records s → (r : numbers.Record) → r ≡ record-at s i → Hit s (m + 1) (r .next) c
+  hit-turn m i c h here room r is = record {
+    position = omega arith;
+    at = goes-on s m i (r .next) (h .at) here (rw is (next-is s i here));
+    chained = one-more s m (h .chained) (rw (← h .at) here);
+    judged = verdict-stays m c (h .judged);
+  }
 
   -- ---- at its end
 
-  -- a chain that ends: the first hit is given, or all is kept
-  ended-told : (m i : ℕ) (seen places ballots : List ℕ) (v : Verdict) → Going m i seen places ballots v → m ≤ 4096 → i ≡ 0 → Told s places ballots (ended m v)
-  ended-told m i seen places ballots Accepted g h z = record {
-    chain = record { chained = g .chained; zero-there = sym (g .at) ∙ z };
-    most = h;
-    judged = sym (g .verdict-is);
-    kept = g .kept refl;
-    places-length = g .places-length;
-    ballots-length = g .ballots-length;
-  }
-  ended-told m i seen places ballots (Refused c) g h z =
-      (ends m (record { chained = g .chained; zero-there = sym (g .at) ∙ z }), sym (g .verdict-is))
-
-  -- the index where no record stands, or that after k records, tells the chain's fate
-  pub going-told : (m i : ℕ) (seen places ballots : List ℕ) (v : Verdict) → Going m i seen places ballots v → m ≤ records s → records s ≤ 4096
-      → Over s i ⊎ (m ≡ records s) → Told s places ballots (walked-by (records s) i m v)
+  -- where no record stands, or after k records, the index tells the chain's fate
+  fate-there : (m i : ℕ) → i ≡ reached s m → Over s i ⊎ (m ≡ records s) → (P : Walked → Type 0)
+      → ((f : Fate s) (c : Cause) → chain-verdict s f ≡ Refused c → P (walked.Refused c)) → (w : Walked) → (i ≡ 0 → P w) → P (walked-by (records s) i w)
   unfolding walked-by
-  going-told m i seen places ballots v g h most last =
+  fate-there m i at last P fated w ended =
       ⊎-elim
       (λ (low : i ≤ records s). ⊎-elim
-      (λ (none : i ≤ 0). rw (le-ltb (records s) i low, le-ltb 0 i none) (ended-told m i seen places ballots v g (omega arith) (omega arith)))
+      (λ (none : i ≤ 0). rw (le-ltb (records s) i low, le-ltb 0 i none) (ended (omega arith)))
       (λ (some : 0 < i).
       let e : m ≡ records s = ⊎-elim (λ (o : Over s i). absurd (not-both s i o (record { low = some; high = low }))) (λ (q : m ≡ records s). q) last in
       rw (le-ltb (records s) i low, lt-ltb 0 i some)
-      (again (inside-again s (rw (← e, ← g .at) (record { low = some; high = low }))), refl))
+      (fated (again (inside-again s (rw (← e, ← at) (record { low = some; high = low })))) ChainRepeats refl))
       (le-or-lt i 0))
       (λ (above : records s < i).
-      rw (lt-ltb (records s) i above) (leaves (record { where-it-does = m; above = rw (← g .at) above }), refl))
+      rw (lt-ltb (records s) i above) (fated (leaves (record { where-it-does = m; above = rw (← at) above })) ChainLeaves refl))
       (le-or-lt i (records s))
+
+  pub going-told : (m i : ℕ) (seen places ballots : List ℕ) → Going m i seen places ballots → m ≤ records s → records s ≤ 4096
+      → Over s i ⊎ (m ≡ records s) → Told s places ballots (walked-by (records s) i (walked.Accepted m))
+  going-told m i seen places ballots g h most last =
+      fate-there m i (g .at) last (Told s places ballots) (λ f c e. (f, e)) (walked.Accepted m)
+      (λ z. record {
+        chain = record { chained = g .chained; zero-there = sym (g .at) ∙ z };
+        most = omega arith;
+        judged = g .judged-all;
+        kept = g .kept;
+        places-length = g .places-length;
+        ballots-length = g .ballots-length;
+      })
+
+  pub hit-told : (m i : ℕ) (c : Cause) → Hit s m i c → Over s i ⊎ (m ≡ records s) → Fated s (walked-by (records s) i (walked.Refused c))
+  hit-told m i c h last =
+      fate-there m i (h .at) last (Fated s) (λ f d e. (f, e)) (walked.Refused c)
+      (λ z. (ends m (record { chained = h .chained; zero-there = sym (h .at) ∙ z }), h .judged))
+
+  -- what it tells after a hit it tells of the whole walk
+  pub fated-told : (places ballots : List ℕ) (w : Walked) → Fated s w → Told s places ballots w
+  fated-told places ballots (walked.Accepted m) f = absurd f
+  fated-told places ballots (walked.Refused c) f = f
+
+  -- the test tells where no record stands
+  pub over-told : (i : ℕ) → is-over (records s) i ≡ true → Over s i
+  unfolding is-over
+  over-told i e = ⊎-elim (λ (z : eqb i 0 ≡ true). inl (eqb-true i 0 z)) (λ (l : ltb (records s) i ≡ true). inr (ltb-true (records s) i l)) (either (eqb i 0) (ltb (records s) i) e)
+
+  pub record-told : (i : ℕ) → is-over (records s) i ≡ false → Record s i
+  unfolding is-over
+  record-told i e =
+      let (a, b) = neither (eqb i 0) (ltb (records s) i) e in
+      let n : i ≡ 0 → ⊥ = eqb-false i 0 a in
+      record { low = omega arith; high = ltb-false (records s) i b }
 
   -- ---- the table
 

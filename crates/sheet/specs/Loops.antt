@@ -1,10 +1,10 @@
 -- What the private functions of the reader do: for their contracts, and no part of what the public call promises.
 use Prim.Native.Nat.{ℕ, zero, suc, _/_, _%_, _^_, _≤_, _<_}
 use mathlib.Core.Path.{_≡_}
-use mathlib.Core.Bool.{Bool}
+use mathlib.Core.Bool.{Bool, _||_}
 use mathlib.Core.List.{List}
 use lib.Bits.{bitOr}
-use lib.Dec.{ltb}
+use lib.Dec.{eqb, ltb}
 use lib.ListN.{length, getD, set, replicate}
 use Rattle.line.specs.Count.{if_then_else_}
 use Rattle.line.specs.Line.{from-0, rounds, place}
@@ -12,12 +12,14 @@ use Rattle.line.specs.Marks.{marked}
 use Rattle.line.specs.Ballot.{silence}
 use Rattle.refusal.specs.Cause.{refused-if, _or-else_}
 use Rattle.refusal.specs.Header.{Sound}
+use Rattle.refusal.specs.declared.cause.Cause.{Cause}
 use Rattle.refusal.specs.declared.cause.Cause.the-variants.{ChainLeaves, ChainRepeats, Duplicate}
 use Rattle.refusal.specs.declared.cause.Verdict.{Verdict}
 use Rattle.refusal.specs.declared.cause.Verdict.the-variants.{Accepted, Refused}
 use Rattle.layout.specs.declared.Header.{Header}
 use Rattle.layout.specs.declared.Record.{Record}
 use Rattle.layout.specs.Layout.{header, records, most-records, ballot}
+use Rattle.layout.specs.Chain as Chain
 use Rattle.layout.specs.Chain.{reached, Ends, Fate}
 use Rattle.judgement.specs.Judgement.{records-verdict, chain-verdict}
 use Rattle.judgement.specs.Numbers.{numbers-verdict}
@@ -76,31 +78,34 @@ pub record Roomy (n last m : ℕ) (seen places ballots : List ℕ) : Type 0 wher
   pub places-length : length places ≡ 4096
   pub ballots-length : length ballots ≡ 4096
 
--- a record taken at position m after this verdict: one that passes is seen, and its place and ballot are kept
-pub record Taken (before : Verdict) (n last marks : ℕ) (r : Record) (m : ℕ) (seen₀ places₀ ballots₀ seen₁ places₁ ballots₁ : List ℕ) (v : Verdict) : Type 0 where
-  pub verdict-is : v ≡ before or-else record-by n last marks r seen₀
+-- a record judged at position m: one that passes is seen, and its place and ballot are kept
+pub record Taken (n last marks : ℕ) (r : Record) (m : ℕ) (seen₀ places₀ ballots₀ seen₁ places₁ ballots₁ : List ℕ) (v : Verdict) : Type 0 where
+  pub verdict-is : v ≡ record-by n last marks r seen₀
   pub seen-is : v ≡ Accepted → seen₁ ≡ with-place seen₀ (place-by n r)
   pub places-are : v ≡ Accepted → places₁ ≡ set places₀ m (place-by n r)
   pub ballots-are : v ≡ Accepted → ballots₁ ≡ set ballots₀ m (r .ballot)
-  pub seen-same : length seen₁ ≡ length seen₀
-  pub places-same : length places₁ ≡ length places₀
-  pub ballots-same : length ballots₁ ≡ length ballots₀
 
 -- ---- the walk
+
+-- no record has the index i, of k records
+unfoldable pub is-over : (k i : ℕ) → Bool
+is-over k i = eqb i 0 || ltb k i
+
+-- what the index i tells, where the walk stops, if a chain that ends tells w
+unfoldable pub walked-by : (k i : ℕ) → Walked → Walked
+walked-by k i w = if ltb k i then walked.Refused ChainLeaves else (if ltb 0 i then walked.Refused ChainRepeats else w)
+
+-- i is the index at position m of the chain, and of the records before it the first hit is c
+pub record Hit (s : List ℕ) (m i : ℕ) (c : Cause) : Type 0 where
+  pub position : m ≤ records s
+  pub at : i ≡ reached s m
+  pub chained : (a : ℕ) → a < m → Chain.Record s (reached s a)
+  pub judged : records-verdict s m ≡ Refused c
 
 -- the places and ballots of the first m records of the chain are kept
 abbrev pub Kept : List ℕ → ℕ → List ℕ → List ℕ → Type 0
 Kept s m places ballots =
     (a : ℕ) → a < m → (getD places a 0 ≡ place-of s (reached s a)) × (getD ballots a 0 ≡ ballot s (reached s a))
-
--- what index i at position m tells, after this verdict of the records before
-abbrev pub ended : ℕ → Verdict → Walked
-ended m Accepted = walked.Accepted m
-ended m (Refused c) = walked.Refused c
-
-unfoldable pub walked-by : (k i m : ℕ) → Verdict → Walked
-walked-by k i m v =
-    if ltb k i then walked.Refused ChainLeaves else (if ltb 0 i then walked.Refused ChainRepeats else ended m v)
 
 -- a chain of m records that pass, all kept
 pub record Whole (s : List ℕ) (m : ℕ) (places ballots : List ℕ) : Type 0 where
@@ -115,6 +120,11 @@ pub record Whole (s : List ℕ) (m : ℕ) (places ballots : List ℕ) : Type 0 w
 abbrev pub Told : (s places ballots : List ℕ) → Walked → Type 0
 Told s places ballots (walked.Accepted m) = Whole s m places ballots
 Told s places ballots (walked.Refused c) = (f : Fate s) × (chain-verdict s f ≡ Refused c)
+
+-- and what it tells after a hit
+abbrev pub Fated : List ℕ → Walked → Type 0
+Fated s (walked.Accepted m) = ⊥
+Fated s (walked.Refused c) = (f : Fate s) × (chain-verdict s f ≡ Refused c)
 
 -- ---- the table
 

@@ -3,8 +3,7 @@ ghost use mathlib.Core.Path.{_≡_};
 ghost use Prim.Native.Nat.{_-_, _≤_, _<_};
 ghost use lib.ListN.{length};
 ghost use Rattle.line.specs.Line.{place};
-ghost use Rattle.refusal.specs.declared.cause.Verdict.the-variants.{Accepted};
-ghost use Rattle.sheet.specs.Loops.{Lined, Roomy, Taken, walked-by, Told};
+ghost use Rattle.sheet.specs.Loops.{Lined, Roomy, Taken, is-over, walked-by, Hit, Fated, Told};
 use crate::seen;
 use layout::Record;
 use refusal::cause::Cause;
@@ -39,7 +38,7 @@ fn judge(
     ballots: &mut [u8; RECORDS],
 ) -> Verdict
     requires { ⌜ Roomy n last m (now seen) (now places) (now ballots) ⌝ }
-    ensures { λ r. ⌜ Taken Accepted n last marks «record» m (now (seen .entry)) (now (places .entry)) (now (ballots .entry)) (now (seen .exit)) (now (places .exit)) (now (ballots .exit)) r ⌝ }
+    ensures { λ r. ⌜ Taken n last marks «record» m (now (seen .entry)) (now (places .entry)) (now (ballots .entry)) (now (seen .exit)) (now (places .exit)) (now (ballots .exit)) r ⌝ }
 {
     let verdict = judgement::numbers_verdict(n, last, marks, record);
     if let Verdict::Refused(c) = verdict {
@@ -56,10 +55,17 @@ fn judge(
     seen::look(seen, p)
 }
 
-// What the index at position m of the chain tells, where records stand at all positions before: above k the chain leaves, 0 ends it, and any other at position
-// k was reached before.
-fn told(k: usize, i: usize, m: usize, verdict: Verdict) -> Walked
-    ensures { λ r. ⌜ r ≡ walked-by k i m verdict ⌝ }
+// Whether no record has the index i, of k records.
+fn is_over(k: usize, i: usize) -> bool
+    ensures { λ r. ⌜ r ≡ is-over k i ⌝ }
+{
+    i == 0 || k < i
+}
+
+// What becomes of a chain by the index i at which the walk stopped, of k records: above k the chain leaves, any other than 0 was reached before, and 0 ends
+// it as is said.
+fn told(k: usize, i: usize, ended: Walked) -> Walked
+    ensures { λ r. ⌜ r ≡ walked-by k i ended ⌝ }
 {
     if k < i {
         return Walked::Refused(Cause::ChainLeaves);
@@ -67,34 +73,29 @@ fn told(k: usize, i: usize, m: usize, verdict: Verdict) -> Walked
     if 0 < i {
         return Walked::Refused(Cause::ChainRepeats);
     }
-    match verdict {
-        Verdict::Accepted => Walked::Accepted(m),
-        Verdict::Refused(c) => Walked::Refused(c),
-    }
+    ended
 }
 
-// One record more, at position m: the first hit stays, and only where there is none the record is judged.
-fn take(
-    verdict: Verdict,
-    record: Record,
-    n: u8,
-    last: u8,
-    marks: u32,
-    m: usize,
-    seen: &mut [u32; seen::WORDS],
-    places: &mut [u16; RECORDS],
-    ballots: &mut [u8; RECORDS],
-) -> Verdict
-    requires { ⌜ Roomy n last m (now seen) (now places) (now ballots) ⌝ }
-    ensures { λ r. ⌜ Taken verdict n last marks «record» m (now (seen .entry)) (now (places .entry)) (now (ballots .entry)) (now (seen .exit)) (now (places .exit)) (now (ballots .exit)) r ⌝ }
+// Walks on from index i at position m after the first hit, which is given if the chain ends.
+fn walk_on(sheet: &[u8], from: usize, position: usize, hit: Cause) -> Walked
+    requires { ⌜ Hit (now sheet) position from hit ⌝ }
+    ensures { λ r. ⌜ Fated (now (sheet .entry)) r ⌝ }
 {
-    if let Verdict::Refused(c) = verdict {
-        return Verdict::Refused(c);
+    let k = layout::records(sheet);
+    let mut i = from;
+    let mut m = position;
+    while m < k {
+        if is_over(k, i) {
+            return told(k, i, Walked::Refused(hit));
+        }
+        let record = layout::record_at(sheet, i);
+        i = record.next as usize;
+        m += 1;
     }
-    judge(record, n, last, marks, m, seen, places, ballots)
+    told(k, i, Walked::Refused(hit))
 }
 
-// Walks the whole chain and judges each record as it comes: of the records the first hit is given, and it is given only if the chain ends.
+// Walks the chain and judges each record as it comes, up to the first hit.
 pub(crate) fn walk(
     sheet: &[u8],
     n: u8,
@@ -110,29 +111,17 @@ pub(crate) fn walk(
     let mut seen = [0u32; seen::WORDS];
     let mut i = layout::first(sheet) as usize;
     let mut m: usize = 0;
-    let mut verdict = Verdict::Accepted;
     while m < k {
-        if i == 0 {
-            return told(k, i, m, verdict);
-        }
-        if k < i {
-            return told(k, i, m, verdict);
+        if is_over(k, i) {
+            return told(k, i, Walked::Accepted(m));
         }
         let record = layout::record_at(sheet, i);
-        let next = take(
-            verdict,
-            record,
-            n,
-            last,
-            marks,
-            m,
-            &mut seen,
-            places,
-            ballots,
-        );
-        verdict = next;
+        let verdict = judge(record, n, last, marks, m, &mut seen, places, ballots);
         i = record.next as usize;
         m += 1;
+        if let Verdict::Refused(c) = verdict {
+            return walk_on(sheet, i, m, c);
+        }
     }
-    told(k, i, m, verdict)
+    told(k, i, Walked::Accepted(m))
 }

@@ -2,11 +2,10 @@
 use borrow.Author.Needs.{needs}
 use native.Mathlib.Omega.{arith}
 use mathlib.Core.Path.{refl, sym, _∙_}
-use lib.ListN.{length-set}
 use Rattle.refusal.proofs.HeaderLaws.{never}
 use Rattle.judgement.proofs.RangeLaws.{accepted-in-range}
 use Rattle.sheet.specs.Loops.{record-by, place-by}
-use Rattle.sheet.proofs.WalkLaws.{place-most, looked-length}
+use Rattle.sheet.proofs.WalkLaws.{place-most}
 use Rattle.sheet.proofs.walk.judge.Statement.{statement}
 use Rattle.sheet.proofs.walk.judge.Tie as tie
 
@@ -23,9 +22,6 @@ returns c = record {
   seen-is = λ e. never e;
   places-are = λ e. never e;
   ballots-are = λ e. never e;
-  seen-same = refl;
-  places-same = refl;
-  ballots-same = refl;
 }
 
 enum-told : tie.Need-enum-told
@@ -80,9 +76,6 @@ returns-2 c =
       seen-is = λ e. c .look .ensures .1 ∙ rw (e, at);
       places-are = λ e. rw at;
       ballots-are = λ e. refl;
-      seen-same = rw (c .look .ensures .1) (looked-length (c .look .result) (c .before .before .before .before .before .before .before .before .before .args .seen .now) (c .before .before .place .result));
-      places-same = simp length-set;
-      ballots-same = simp length-set;
     }
 
 pub judge-spec : {M : Type 1} → statement M

@@ -1,5 +1,4 @@
 -- `walk::told` meets its contract: one test after the other.
-use borrow.Author.Needs.{needs}
 use borrow.Author.Tests.{lt-ltb, le-ltb}
 use Rattle.sheet.specs.Loops.{walked-by}
 use Rattle.sheet.proofs.walk.told.Statement.{statement}
@@ -16,25 +15,12 @@ returns-2 c =
     let i = c .before .before .args .i in
     rw (le-ltb k i (c .before .if1 .left), lt-ltb 0 i (c .if2 .taken))
 
-enum-told : tie.Need-enum-told
-enum-told c = search needs
-
-enum-known-verdict : tie.Need-enum-known-verdict
-enum-known-verdict c = search needs
-
 returns-3 : tie.Need-returns-3
 unfolding walked-by
 returns-3 c =
-    let k = c .before .before .before .before .args .k in
-    let i = c .before .before .before .before .args .i in
-    rw (le-ltb k i (c .before .before .before .if1 .left), le-ltb 0 i (c .before .before .if2 .left), c .enum-told .given .1)
-
-returns-4 : tie.Need-returns-4
-unfolding walked-by
-returns-4 c =
-    let k = c .before .before .before .before .before .args .k in
-    let i = c .before .before .before .before .before .args .i in
-    rw (le-ltb k i (c .before .before .before .before .if1 .left), le-ltb 0 i (c .before .before .before .if2 .left), c .before .verdict .given .1)
+    let k = c .before .before .args .k in
+    let i = c .before .before .args .i in
+    rw (le-ltb k i (c .before .if1 .left), le-ltb 0 i (c .if2 .left))
 
 pub told-spec : {M : Type 1} → statement M
-told-spec = tie.close (tie.spec returns returns-2 enum-told enum-known-verdict returns-3 returns-4)
+told-spec = tie.close (tie.spec returns returns-2 returns-3)

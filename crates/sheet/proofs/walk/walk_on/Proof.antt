@@ -1,0 +1,83 @@
+-- `walk::walk_on` meets its contract. The loop's invariant: i stands at position m of the chain, and the first hit is before it.
+use borrow.Author.Needs.{needs}
+use native.Mathlib.Omega.{arith}
+use Prim.Native.Nat.{_-_, _<_}
+use mathlib.Core.Path.{_≡_, sym, _∙_}
+use mathlib.Core.Logic.{inl, inr}
+use Rattle.layout.specs.Layout.{records}
+use Rattle.sheet.specs.Loops.{Hit}
+use Rattle.sheet.proofs.WalkLaws.{hit-turn, hit-told, over-told, record-told}
+use Rattle.sheet.proofs.walk.walk_on.Statement.{statement}
+use Rattle.sheet.proofs.walk.walk_on.Tie as tie
+
+abbrev Inv-loop : tie.InvT-loop
+Inv-loop sheet from position hit k i₀ m₀ i m = (k ≡ records sheet) × Hit sheet m i hit
+
+abbrev μ-loop : tie.MeasureT-loop
+μ-loop sheet from position hit k i₀ m₀ i m = k - m
+
+records-requires : tie.Need-records-requires Inv-loop μ-loop
+records-requires c κs = search needs
+
+loop-holds : tie.Need-loop-holds Inv-loop μ-loop
+loop-holds c = (c .records .ensures, c .before .before .pre)
+
+is-over-requires : tie.Need-is-over-requires Inv-loop μ-loop
+is-over-requires c κs = search needs
+
+told-requires : tie.Need-told-requires Inv-loop μ-loop
+told-requires c κs = search needs
+
+returns : tie.Need-returns Inv-loop μ-loop
+returns c =
+    let inv = c .before .before .before .before .loop .inv in
+    rw (c .told .ensures, inv .0)
+    (hit-told _ _ _ _ (inv .1) (inl (over-told _ _ (rw (← inv .0) (sym (c .before .before .is-over .ensures) ∙ c .before .if1 .taken)))))
+
+record-at-requires : tie.Need-record-at-requires Inv-loop μ-loop
+record-at-requires c κs = search needs
+
+cast-i : tie.Need-cast-i Inv-loop μ-loop
+cast-i c = search needs
+
+add-m : tie.Need-add-m Inv-loop μ-loop
+add-m c = omega arith
+
+loop-less : tie.Need-loop-less Inv-loop μ-loop
+loop-less c = omega arith
+
+loop-again : tie.Need-loop-again Inv-loop μ-loop
+loop-again c =
+    let s = c .before .before .before .before .before .before .before .before .args .sheet .now in
+    let inv = c .before .before .before .before .before .loop .inv in
+    let here = record-told s (c .before .before .before .before .before .loop .i) (rw (← inv .0) (sym (c .before .before .before .is-over .ensures) ∙ c .before .before .if1 .left)) in
+    let room : c .before .before .before .before .before .loop .m < records s = omega (arith, inv .0, c .before .before .before .before .loop-test) in
+    (inv .0, hit-turn s _ _ _ (inv .1) here room _ (c .before .record-at .ensures))
+
+told-requires-2 : tie.Need-told-requires-2 Inv-loop μ-loop
+told-requires-2 c κs = search needs
+
+returns-2 : tie.Need-returns-2 Inv-loop μ-loop
+returns-2 c =
+    let inv = c .before .before .loop .inv in
+    let all : c .before .before .loop .m ≡ records (c .before .before .before .before .before .args .sheet .now) = omega (arith, inv .0, inv .1 .position, c .before .loop-test) in
+    rw (c .told2 .ensures, inv .0) (hit-told _ _ _ _ (inv .1) (inr all))
+
+pub walk-on-spec : {M : Type 1} → statement M
+walk-on-spec =
+    tie.close
+    (tie.spec
+    Inv-loop
+    μ-loop
+    records-requires
+    loop-holds
+    is-over-requires
+    told-requires
+    returns
+    record-at-requires
+    cast-i
+    add-m
+    loop-less
+    loop-again
+    told-requires-2
+    returns-2)
