@@ -2,5 +2,6 @@
 -- shown of the chain.
 pub mod Layout
 pub mod Chain
+pub mod Outside
 pub mod Numbers
 pub mod Theorems

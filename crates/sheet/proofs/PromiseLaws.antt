@@ -1,6 +1,6 @@
 -- Laws of what the reader promises: what causes 1 to 8 let through, and the promise by what the verdict is. Assumes nothing.
 use Prim.Native.Nat.{ℕ, _≤_}
-use mathlib.Core.Path.{_≡_, refl}
+use mathlib.Core.Path.{_≡_, refl, _∙_}
 use mathlib.Core.List.{List}
 use lib.ListN.{length}
 use Rattle.line.specs.Line.{table-length}
@@ -14,12 +14,13 @@ use Rattle.layout.specs.declared.Header.{Header}
 use Rattle.sheet.specs.declared.Reading.{Reading}
 use Rattle.sheet.specs.declared.Reading.the-variants as reading
 use Rattle.layout.specs.Layout.{header, most-records, records}
-use Rattle.layout.specs.Chain.{Fate}
+use Rattle.layout.specs.Chain.{Fate, ends}
 use Rattle.judgement.specs.Judgement.{sheet-form, line-and-length, verdict-to-8, chain-verdict, sheet-verdict}
 use Rattle.sheet.specs.Reading.{table-of, numbers-of, reading-number, reading-values, reading-by, Reads}
-use Rattle.sheet.specs.Loops.{SoundHeader}
+use Rattle.sheet.specs.Loops.{SoundHeader, Whole, laid}
 use Rattle.judgement.proofs.FormLaws.{form-sound}
 use Rattle.layout.proofs.ChainLaws.{fate}
+use Rattle.sheet.proofs.WalkLaws.{laid-filled}
 
 module _ (s : List ℕ) where
   -- ---- what causes 1 to 8 let through
@@ -80,3 +81,9 @@ module _ (s : List ℕ) where
         → Reads s table filled (reading.Accepted h)
     unfolding sheet-verdict
     accepted-read h filled e q t = promised table filled (reading.Accepted h) f verdict.Accepted (rw (o, e)) (rw q) t
+
+  -- by a walk that kept all, and the table filled with it
+  pub whole-read : (table table₁ places ballots : List ℕ) (m : ℕ) (h : Header) → verdict-to-8 s (length table) ≡ verdict.Accepted → Whole s m places ballots
+      → h ≡ header s → table₁ ≡ laid places ballots (length table) m → Reads s table table₁ (reading.Accepted h)
+  whole-read table table₁ places ballots m h o w q e =
+      accepted-read table (ends m (w .chain)) o h table₁ (w .judged) q (e ∙ laid-filled s places ballots (length table) m (opening-length (length table) o) (w .kept))

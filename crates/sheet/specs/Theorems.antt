@@ -1,16 +1,17 @@
 -- What is shown of the definitions. Each statement has a name here, and proofs/Theorems.antt has the law that proves it.
-use Prim.Native.Nat.{ℕ, _+_, _*_, _≤_, _<_}
+use Prim.Native.Nat.{ℕ, _≤_, _<_}
 use mathlib.Core.Path.{_≡_}
 use mathlib.Core.Bool.{false}
 use mathlib.Core.Logic.{_≢_}
 use mathlib.Core.List.{List}
-use lib.ListN.{length, getD}
+use lib.ListN.{getD}
 use Rattle.line.specs.Line.{rounds, table-length, place}
 use Rattle.line.specs.Marks.{marked}
 use Rattle.refusal.specs.declared.cause.Verdict.the-variants.{Accepted}
-use Rattle.layout.specs.Layout.{byte, header, spare, most-records, records, start, ballot}
-use Rattle.layout.specs.Chain.{Record, reached, Leaves, Again, Ends, Fate}
-use Rattle.judgement.specs.Judgement.{sheet-form, sheet-verdict}
+use Rattle.layout.specs.Layout.{header, ballot}
+use Rattle.layout.specs.Chain.{Record, reached, Fate}
+use Rattle.layout.specs.Outside.{SameChain}
+use Rattle.judgement.specs.Judgement.{sheet-verdict}
 use Rattle.sheet.specs.Reading.{place-of, table-of}
 
 -- ---- the chain
@@ -21,13 +22,7 @@ One-fate = (s : List ℕ) (f g : Fate s) → ((l : ℕ) → sheet-verdict s l f 
 
 -- ---- "A record outside the chain is ignored, its content too."
 
--- two sheets of one length with the same header and, wherever the first one's chain comes, the same record
-pub record SameChain (s s′ : List ℕ) : Type 0 where
-  pub length-same : length s ≡ length s′
-  pub header-same : (b : ℕ) → b < 12 → byte s b ≡ byte s′ b
-  pub chain-same : (m b : ℕ) → Record s (reached s m) → b < 8 → byte s (start (reached s m) + b) ≡ byte s′ (start (reached s m) + b)
-
--- are read alike
+-- two sheets whose headers and chains are the same (`SameChain` of layout) are read alike
 abbrev pub Outside-ignored : Type 0
 Outside-ignored =
     (s s′ : List ℕ) → SameChain s s′ → (f : Fate s) (f′ : Fate s′)

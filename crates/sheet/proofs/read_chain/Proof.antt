@@ -2,13 +2,12 @@
 use borrow.Author.Needs.{needs}
 use native.Mathlib.Omega.{arith}
 use Prim.Native.Nat.{ℕ}
-use mathlib.Core.Path.{_≡_, ap, _∙_}
+use mathlib.Core.Path.{_≡_, ap}
 use Rattle.layout.specs.Layout.{header}
-use Rattle.layout.specs.Chain.{ends}
 use Rattle.layout.specs.declared.Header.{Header}
 use lib.ListN.{length-replicate}
-use Rattle.sheet.proofs.PromiseLaws.{opening-most, opening-sound, opening-length, refused-later, accepted-read}
-use Rattle.sheet.proofs.WalkLaws.{laid-length, laid-filled, kept-inside}
+use Rattle.sheet.proofs.PromiseLaws.{opening-most, opening-sound, opening-length, refused-later, whole-read}
+use Rattle.sheet.proofs.WalkLaws.{laid-length, kept-inside}
 use Rattle.sheet.proofs.read_chain.Statement.{statement}
 use Rattle.sheet.proofs.read_chain.Tie as tie
 
@@ -67,9 +66,7 @@ returns c =
     let s = c .before .before .before .before .before .before .before .before .before .before .before .before .before .before .before .before .args .sheet .now in
     let p = c .before .before .before .before .before .before .before .before .before .before .before .before .before .before .before .before .pre in
     let whole = rw (c .before .before .before .before .before .before .before .walked .given .1) at (c .before .before .before .before .before .before .before .before .before .walk .ensures) in
-    accepted-read s _ (ends _ (whole .chain)) p _ _ (whole .judged)
-    (c .before .before .before .before .before .before .before .before .before .before .before .before .before .header-of .ensures)
-    (c .before .before .fill .ensures ∙ laid-filled s _ _ _ _ (opening-length s _ p) (whole .kept))
+    whole-read s _ _ _ _ _ _ p whole (c .before .before .before .before .before .before .before .before .before .before .before .before .before .header-of .ensures) (c .before .before .fill .ensures)
 
 returns-2 : tie.Need-returns-2
 returns-2 c =
