@@ -1,21 +1,22 @@
--- Laws of a record's judgement: what cause 11 lets through, and the numbers handed on judged as the sheet's record. Assumes nothing.
+-- Laws of a record's judgement: what cause 11 lets through, the numbers handed on judged as the sheet's record, and which records have one place.
+-- Assumes nothing.
 use Prim.Native.Nat.{ℕ, _≤_}
-use mathlib.Core.Path.{_≡_}
-use mathlib.Core.Bool.{false, not, _||_}
+use mathlib.Core.Path.{_≡_, refl}
+use mathlib.Core.Bool.{Bool, true, false, not, _&&_, _||_}
 use mathlib.Core.List.{List}
 use lib.Dec.{eqb}
-use borrow.Author.Tests.{eqb-true, not-false}
+use borrow.Author.Tests.{eqb-true, eq-eqb, not-false}
 use Rattle.line.specs.Line.{rounds}
 use Rattle.refusal.specs.Cause.{_or-else_}
 use Rattle.refusal.specs.Header.{outside}
 use Rattle.refusal.specs.declared.cause.Verdict.the-variants.{Accepted}
 use Rattle.refusal.proofs.HeaderLaws.{inside, neither, accepted-false, both-accepted}
-use Rattle.layout.specs.Layout.{header}
+use Rattle.layout.specs.Layout.{header, round, from, to}
 use Rattle.layout.specs.Chain.{Record}
 use Rattle.layout.specs.Numbers.{record-at}
 use Rattle.layout.specs.declared.Record as numbers
 use Rattle.layout.proofs.LayoutLaws.{round-is, from-is, to-is, rest-is}
-use Rattle.judgement.specs.Judgement.{misplaced, record-form, unmarked-sender}
+use Rattle.judgement.specs.Judgement.{misplaced, record-form, unmarked-sender, same-place}
 use Rattle.judgement.specs.Numbers.{out-of-place, numbers-verdict}
 
 -- a record's numbers in their ranges
@@ -68,3 +69,22 @@ pub judged-by-numbers : (s : List ℕ) (i : ℕ) → Record s i
     → numbers-verdict (header s .n) (rounds (header s .t)) (header s .marks) (record-at s i) ≡ record-form s i or-else unmarked-sender s i
 unfolding numbers-verdict out-of-place record-form misplaced unmarked-sender
 judged-by-numbers s i r = rw (round-is s i r, from-is s i r, to-is s i r, rest-is s i r)
+
+-- ---- two records
+
+pub both-true : (a b : Bool) → a && b ≡ true → (a ≡ true) × (b ≡ true)
+both-true true b e = (refl, e)
+both-true false b e = (e, cc)
+
+module _ (s : List ℕ) (i j : ℕ) where
+  -- the same round, from and to are the same place, whatever the ballots
+  pub numbers-same : round s i ≡ round s j → from s i ≡ from s j → to s i ≡ to s j → same-place s i j ≡ true
+  unfolding same-place
+  numbers-same r f t = rw (eq-eqb (round s i) (round s j) r, eq-eqb (from s i) (from s j) f, eq-eqb (to s i) (to s j) t)
+
+  pub same-numbers : same-place s i j ≡ true → (round s i ≡ round s j) × (from s i ≡ from s j) × (to s i ≡ to s j)
+  unfolding same-place
+  same-numbers e =
+      let (e₂, t) = both-true (eqb (round s i) (round s j) && eqb (from s i) (from s j)) (eqb (to s i) (to s j)) e in
+      let (r, f) = both-true (eqb (round s i) (round s j)) (eqb (from s i) (from s j)) e₂ in
+      (eqb-true (round s i) (round s j) r, eqb-true (from s i) (from s j) f, eqb-true (to s i) (to s j) t)

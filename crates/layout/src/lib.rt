@@ -21,15 +21,15 @@ pub struct Record {
     pub from: u8,
     pub to: u8,
     pub ballot: u8,
-    pub next: u16,
-    pub rest: u16,
+    pub next: usize,
+    pub rest: usize,
 }
 
 // A two-byte number, of its bytes.
-fn two(low: u8, high: u8) -> u16
-    ensures { λ r. ⌜ r ≡ low + 256 * high ⌝ }
+fn two(low: u8, high: u8) -> usize
+    ensures { λ r. ⌜ (r ≡ low + 256 * high) × (r < 65536) ⌝ }
 {
-    (low as u16) + 256 * (high as u16)
+    (low as usize) + 256 * (high as usize)
 }
 
 // A byte of the sheet.
@@ -63,7 +63,7 @@ pub fn spare(sheet: &[u8]) -> u8
 }
 
 // The index of the first record, or 0.
-pub fn first(sheet: &[u8]) -> u16
+pub fn first(sheet: &[u8]) -> usize
     ensures { λ r. ⌜ r ≡ first (now (sheet .entry)) ⌝ }
 {
     two(byte(sheet, 6), byte(sheet, 7))

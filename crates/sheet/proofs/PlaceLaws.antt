@@ -12,12 +12,8 @@ use Rattle.line.proofs.LineLaws.{place-below, place-round, place-from, place-to
 use Rattle.layout.specs.Layout.{header, round, from, to, rest}
 use Rattle.judgement.specs.Judgement.{misplaced, same-place}
 use Rattle.sheet.specs.Reading.{place-of}
-use Rattle.judgement.proofs.RangeLaws.{InRange, in-range}
+use Rattle.judgement.proofs.RangeLaws.{InRange, in-range, numbers-same, same-numbers}
 use Rattle.sheet.specs.Loops.{SoundHeader}
-
-pub both-true : (a b : Bool) → a && b ≡ true → (a ≡ true) × (b ≡ true)
-both-true true b e = (refl, e)
-both-true false b e = (e, cc)
 
 -- a record's numbers, where cause 11 lets it through
 abbrev pub InPlace : List ℕ → ℕ → Type 0
@@ -65,17 +61,13 @@ module _ (s : List ℕ) where
 
   -- two records with one place have the same round, from and to
   pub place-tells : (i j : ℕ) → InPlace s i → InPlace s j → place-of s i ≡ place-of s j → same-place s i j ≡ true
-  unfolding same-place
   place-tells i j p q e =
       let r : round s i ≡ round s j = cc (round-told i p, round-told j q) in
       let f : from s i - 1 ≡ from s j - 1 = cc (from-told i p, from-told j q) in
       let t : to s i - 1 ≡ to s j - 1 = cc (to-told i p, to-told j q) in
-      rw (eq-eqb (round s i) (round s j) r, eq-eqb (from s i) (from s j) (omega arith), eq-eqb (to s i) (to s j) (omega arith))
+      numbers-same s i j r (omega arith) (omega arith)
 
   -- and two with the same round, from and to have one place
   pub same-tells : (i j : ℕ) → same-place s i j ≡ true → place-of s i ≡ place-of s j
-  unfolding same-place place-of
-  same-tells i j e =
-      let (e₂, t) = both-true (eqb (round s i) (round s j) && eqb (from s i) (from s j)) (eqb (to s i) (to s j)) e in
-      let (r, f) = both-true (eqb (round s i) (round s j)) (eqb (from s i) (from s j)) e₂ in
-      rw (eqb-true (round s i) (round s j) r, eqb-true (from s i) (from s j) f, eqb-true (to s i) (to s j) t)
+  unfolding place-of
+  same-tells i j e = let (r, f, t) = same-numbers s i j e in rw (r, f, t)

@@ -31,8 +31,8 @@ use Rattle.judgement.proofs.RangeLaws.{InRange, judged-by-numbers}
 use Rattle.sheet.specs.Reading.{place-of, filled}
 use Rattle.sheet.specs.Loops as loops
 use Rattle.sheet.specs.Loops.{Lined, place-by, record-by, Taken, is-over, walked-by, Hit, Kept, Whole, Told, Fated, laid}
-use Rattle.sheet.specs.declared.walk.Walked.{Walked}
-use Rattle.sheet.specs.declared.walk.Walked.the-variants as walked
+use Rattle.sheet.specs.declared.fate.Walked.{Walked}
+use Rattle.sheet.specs.declared.fate.Walked.the-variants as walked
 use Rattle.sheet.proofs.PlaceLaws.{place-inside}
 use Rattle.sheet.proofs.TableLaws.{judged, judged-place}
 use Rattle.sheet.proofs.SeenLaws.{judged-by-seen}

@@ -24,8 +24,8 @@ use Rattle.layout.specs.Chain.{reached, Ends, Fate}
 use Rattle.judgement.specs.Judgement.{records-verdict, chain-verdict}
 use Rattle.judgement.specs.Numbers.{numbers-verdict}
 use Rattle.sheet.specs.Reading.{place-of}
-use Rattle.sheet.specs.declared.walk.Walked.{Walked}
-use Rattle.sheet.specs.declared.walk.Walked.the-variants as walked
+use Rattle.sheet.specs.declared.fate.Walked.{Walked}
+use Rattle.sheet.specs.declared.fate.Walked.the-variants as walked
 
 -- a header that causes 2 to 6 let through
 abbrev pub SoundHeader : Header → Type 0

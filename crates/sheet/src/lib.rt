@@ -4,12 +4,13 @@ ghost use lib.ListN.{length};
 ghost use Rattle.refusal.specs.declared.cause.Verdict.the-variants.{Accepted};
 ghost use Rattle.judgement.specs.Judgement.{verdict-to-8};
 ghost use Rattle.sheet.specs.Reading.{Reads};
-use crate::walk::Walked;
+use crate::fate::Walked;
 use layout::Header;
 use line::Line;
 use refusal::cause::Cause;
 use refusal::cause::Verdict;
 
+mod fate;
 mod fill;
 mod seen;
 mod walk;

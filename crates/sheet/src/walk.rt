@@ -3,20 +3,15 @@ ghost use mathlib.Core.Path.{_≡_};
 ghost use Prim.Native.Nat.{_-_, _≤_, _<_};
 ghost use lib.ListN.{length};
 ghost use Rattle.line.specs.Line.{place};
-ghost use Rattle.sheet.specs.Loops.{Lined, Roomy, Taken, is-over, walked-by, Hit, Fated, Told};
+ghost use Rattle.sheet.specs.Loops.{Lined, Roomy, Taken, Told};
+use crate::fate;
+use crate::fate::Walked;
 use crate::seen;
 use layout::Record;
-use refusal::cause::Cause;
 use refusal::cause::Verdict;
 
 // The most records of a sheet.
 pub(crate) const RECORDS: usize = 4096;
-
-// What the walk comes to: so many records, none of them refused; or a cause.
-pub(crate) enum Walked {
-    Accepted(usize),
-    Refused(Cause),
-}
 
 // Where the byte for a round, from a station, to a station stands in a table of n stations.
 fn place(n: usize, round: usize, from: usize, to: usize) -> usize
@@ -55,46 +50,6 @@ fn judge(
     seen::look(seen, p)
 }
 
-// Whether no record has the index i, of k records.
-fn is_over(k: usize, i: usize) -> bool
-    ensures { λ r. ⌜ r ≡ is-over k i ⌝ }
-{
-    i == 0 || k < i
-}
-
-// What becomes of a chain by the index i at which the walk stopped, of k records: above k the chain leaves, any other than 0 was reached before, and 0 ends
-// it as is said.
-fn told(k: usize, i: usize, ended: Walked) -> Walked
-    ensures { λ r. ⌜ r ≡ walked-by k i ended ⌝ }
-{
-    if k < i {
-        return Walked::Refused(Cause::ChainLeaves);
-    }
-    if 0 < i {
-        return Walked::Refused(Cause::ChainRepeats);
-    }
-    ended
-}
-
-// Walks on from index i at position m after the first hit, which is given if the chain ends.
-fn walk_on(sheet: &[u8], from: usize, position: usize, hit: Cause) -> Walked
-    requires { ⌜ Hit (now sheet) position from hit ⌝ }
-    ensures { λ r. ⌜ Fated (now (sheet .entry)) r ⌝ }
-{
-    let k = layout::records(sheet);
-    let mut i = from;
-    let mut m = position;
-    while m < k {
-        if is_over(k, i) {
-            return told(k, i, Walked::Refused(hit));
-        }
-        let record = layout::record_at(sheet, i);
-        i = record.next as usize;
-        m += 1;
-    }
-    told(k, i, Walked::Refused(hit))
-}
-
 // Walks the chain and judges each record as it comes, up to the first hit.
 pub(crate) fn walk(
     sheet: &[u8],
@@ -109,19 +64,19 @@ pub(crate) fn walk(
 {
     let k = layout::records(sheet);
     let mut seen = [0u32; seen::WORDS];
-    let mut i = layout::first(sheet) as usize;
+    let mut i = layout::first(sheet);
     let mut m: usize = 0;
     while m < k {
-        if is_over(k, i) {
-            return told(k, i, Walked::Accepted(m));
+        if fate::is_over(k, i) {
+            return fate::told(k, i, Walked::Accepted(m));
         }
         let record = layout::record_at(sheet, i);
         let verdict = judge(record, n, last, marks, m, &mut seen, places, ballots);
-        i = record.next as usize;
+        i = record.next;
         m += 1;
         if let Verdict::Refused(c) = verdict {
-            return walk_on(sheet, i, m, c);
+            return fate::walk_on(sheet, i, m, c);
         }
     }
-    told(k, i, Walked::Accepted(m))
+    fate::told(k, i, Walked::Accepted(m))
 }

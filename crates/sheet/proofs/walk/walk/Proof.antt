@@ -24,9 +24,6 @@ records-requires c κs = search needs
 first-requires : tie.Need-first-requires Inv-loop μ-loop
 first-requires c κs = search needs
 
-cast-i : tie.Need-cast-i Inv-loop μ-loop
-cast-i c = search needs
-
 loop-holds : tie.Need-loop-holds Inv-loop μ-loop
 unfolding unseen
 loop-holds c =
@@ -62,9 +59,6 @@ judge-requires c κs =
       ballots-length = inv .1 .1 .ballots-length;
     }
 
-cast-i-2 : tie.Need-cast-i-2 Inv-loop μ-loop
-cast-i-2 c = search needs
-
 add-m : tie.Need-add-m Inv-loop μ-loop
 add-m c = omega arith
 
@@ -73,17 +67,17 @@ enum-known-verdict c = search needs
 
 walk-on-requires : tie.Need-walk-on-requires Inv-loop μ-loop
 walk-on-requires c κs =
-    let s = c .before .before .before .before .before .before .before .before .before .before .before .before .before .before .before .before .args .sheet .now in
-    let p = c .before .before .before .before .before .before .before .before .before .before .before .before .before .before .before .before .pre in
-    let inv = c .before .before .before .before .before .before .before .before .before .before .before .before .loop .inv in
-    let here = record-told s (c .before .before .before .before .before .before .before .before .before .before .before .before .loop .i) (rw (← inv .0) (sym (c .before .before .before .before .before .before .before .before .before .before .is-over .ensures) ∙ c .before .before .before .before .before .before .before .before .before .if1 .left)) in
-    let room : c .before .before .before .before .before .before .before .before .before .before .before .before .loop .m < records s = omega (arith, inv .0, c .before .before .before .before .before .before .before .before .before .before .before .loop-test) in
-    going-hit s _ _ _ (p .0) _ _ _ _ _ (inv .1 .1) here room _ (c .before .before .before .before .before .before .before .before .record-at .ensures) _ _ _ _ (c .before .before .before .before .judge .ensures) _ (c .before .verdict .given .1)
+    let s = c .before .before .before .before .before .before .before .before .before .before .before .before .before .before .before .args .sheet .now in
+    let p = c .before .before .before .before .before .before .before .before .before .before .before .before .before .before .before .pre in
+    let inv = c .before .before .before .before .before .before .before .before .before .before .before .loop .inv in
+    let here = record-told s (c .before .before .before .before .before .before .before .before .before .before .before .loop .i) (rw (← inv .0) (sym (c .before .before .before .before .before .before .before .before .before .is-over .ensures) ∙ c .before .before .before .before .before .before .before .before .if1 .left)) in
+    let room : c .before .before .before .before .before .before .before .before .before .before .before .loop .m < records s = omega (arith, inv .0, c .before .before .before .before .before .before .before .before .before .before .loop-test) in
+    going-hit s _ _ _ (p .0) _ _ _ _ _ (inv .1 .1) here room _ (c .before .before .before .before .before .before .before .record-at .ensures) _ _ _ _ (c .before .before .before .judge .ensures) _ (c .before .verdict .given .1)
 
 returns-2 : tie.Need-returns-2 Inv-loop μ-loop
 returns-2 c =
-    let s = c .before .before .before .before .before .before .before .before .before .before .before .before .before .before .before .before .before .args .sheet .now in
-    let kept = c .before .before .before .before .before .judge .last .1 .1 .1 .1 .1 .1 in
+    let s = c .before .before .before .before .before .before .before .before .before .before .before .before .before .before .before .before .args .sheet .now in
+    let kept = c .before .before .before .before .judge .last .1 .1 .1 .1 .1 .1 in
     fated-told s (kept .0) (kept .1 .0) (c .walk-on .result) (c .walk-on .ensures)
 
 enum-told : tie.Need-enum-told Inv-loop μ-loop
@@ -94,12 +88,12 @@ loop-less c = omega arith
 
 loop-again : tie.Need-loop-again Inv-loop μ-loop
 loop-again c =
-    let s = c .before .before .before .before .before .before .before .before .before .before .before .before .before .before .before .args .sheet .now in
-    let p = c .before .before .before .before .before .before .before .before .before .before .before .before .before .before .before .pre in
-    let inv = c .before .before .before .before .before .before .before .before .before .before .before .loop .inv in
-    let here = record-told s (c .before .before .before .before .before .before .before .before .before .before .before .loop .i) (rw (← inv .0) (sym (c .before .before .before .before .before .before .before .before .before .is-over .ensures) ∙ c .before .before .before .before .before .before .before .before .if1 .left)) in
-    let room : c .before .before .before .before .before .before .before .before .before .before .before .loop .m < records s = omega (arith, inv .0, c .before .before .before .before .before .before .before .before .before .before .loop-test) in
-    (inv .0, (omega arith, going-turn s _ _ _ (p .0) _ _ _ _ _ (inv .1 .1) here room _ (c .before .before .before .before .before .before .before .record-at .ensures) _ _ _ _ (c .before .before .before .judge .ensures) (c .enum-told .given .1)))
+    let s = c .before .before .before .before .before .before .before .before .before .before .before .before .before .before .args .sheet .now in
+    let p = c .before .before .before .before .before .before .before .before .before .before .before .before .before .before .pre in
+    let inv = c .before .before .before .before .before .before .before .before .before .before .loop .inv in
+    let here = record-told s (c .before .before .before .before .before .before .before .before .before .before .loop .i) (rw (← inv .0) (sym (c .before .before .before .before .before .before .before .before .is-over .ensures) ∙ c .before .before .before .before .before .before .before .if1 .left)) in
+    let room : c .before .before .before .before .before .before .before .before .before .before .loop .m < records s = omega (arith, inv .0, c .before .before .before .before .before .before .before .before .before .loop-test) in
+    (inv .0, (omega arith, going-turn s _ _ _ (p .0) _ _ _ _ _ (inv .1 .1) here room _ (c .before .before .before .before .before .before .record-at .ensures) _ _ _ _ (c .before .before .judge .ensures) (c .enum-told .given .1)))
 
 told-requires-2 : tie.Need-told-requires-2 Inv-loop μ-loop
 told-requires-2 c κs = search needs
@@ -119,14 +113,12 @@ walk-spec =
     μ-loop
     records-requires
     first-requires
-    cast-i
     loop-holds
     is-over-requires
     told-requires
     returns
     record-at-requires
     judge-requires
-    cast-i-2
     add-m
     enum-known-verdict
     walk-on-requires

@@ -1,4 +1,4 @@
--- `walk::walk_on` meets its contract. The loop's invariant: i stands at position m of the chain, and the first hit is before it.
+-- `fate::walk_on` meets its contract. The loop's invariant: i stands at position m of the chain, and the first hit is before it.
 use borrow.Author.Needs.{needs}
 use native.Mathlib.Omega.{arith}
 use Prim.Native.Nat.{_-_, _<_}
@@ -7,8 +7,8 @@ use mathlib.Core.Logic.{inl, inr}
 use Rattle.layout.specs.Layout.{records}
 use Rattle.sheet.specs.Loops.{Hit}
 use Rattle.sheet.proofs.WalkLaws.{hit-turn, hit-told, over-told, record-told}
-use Rattle.sheet.proofs.walk.walk_on.Statement.{statement}
-use Rattle.sheet.proofs.walk.walk_on.Tie as tie
+use Rattle.sheet.proofs.fate.walk_on.Statement.{statement}
+use Rattle.sheet.proofs.fate.walk_on.Tie as tie
 
 abbrev Inv-loop : tie.InvT-loop
 Inv-loop sheet from position hit k i₀ m₀ i m = (k ≡ records sheet) × Hit sheet m i hit
@@ -37,9 +37,6 @@ returns c =
 record-at-requires : tie.Need-record-at-requires Inv-loop μ-loop
 record-at-requires c κs = search needs
 
-cast-i : tie.Need-cast-i Inv-loop μ-loop
-cast-i c = search needs
-
 add-m : tie.Need-add-m Inv-loop μ-loop
 add-m c = omega arith
 
@@ -48,11 +45,11 @@ loop-less c = omega arith
 
 loop-again : tie.Need-loop-again Inv-loop μ-loop
 loop-again c =
-    let s = c .before .before .before .before .before .before .before .before .args .sheet .now in
-    let inv = c .before .before .before .before .before .loop .inv in
-    let here = record-told s (c .before .before .before .before .before .loop .i) (rw (← inv .0) (sym (c .before .before .before .is-over .ensures) ∙ c .before .before .if1 .left)) in
-    let room : c .before .before .before .before .before .loop .m < records s = omega (arith, inv .0, c .before .before .before .before .loop-test) in
-    (inv .0, hit-turn s _ _ _ (inv .1) here room _ (c .before .record-at .ensures))
+    let s = c .before .before .before .before .before .before .before .args .sheet .now in
+    let inv = c .before .before .before .before .loop .inv in
+    let here = record-told s (c .before .before .before .before .loop .i) (rw (← inv .0) (sym (c .before .before .is-over .ensures) ∙ c .before .if1 .left)) in
+    let room : c .before .before .before .before .loop .m < records s = omega (arith, inv .0, c .before .before .before .loop-test) in
+    (inv .0, hit-turn s _ _ _ (inv .1) here room _ (c .record-at .ensures))
 
 told-requires-2 : tie.Need-told-requires-2 Inv-loop μ-loop
 told-requires-2 c κs = search needs
@@ -75,7 +72,6 @@ walk-on-spec =
     told-requires
     returns
     record-at-requires
-    cast-i
     add-m
     loop-less
     loop-again

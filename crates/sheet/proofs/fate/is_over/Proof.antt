@@ -1,8 +1,8 @@
--- `walk::is_over` meets its contract.
+-- `fate::is_over` meets its contract.
 use borrow.Author.Tests.{eq-eqb, ne-eqb}
 use Rattle.sheet.specs.Loops.{is-over}
-use Rattle.sheet.proofs.walk.is_over.Statement.{statement}
-use Rattle.sheet.proofs.walk.is_over.Tie as tie
+use Rattle.sheet.proofs.fate.is_over.Statement.{statement}
+use Rattle.sheet.proofs.fate.is_over.Tie as tie
 
 returns : tie.Need-returns
 unfolding is-over

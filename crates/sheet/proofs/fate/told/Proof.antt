@@ -1,8 +1,8 @@
--- `walk::told` meets its contract: one test after the other.
+-- `fate::told` meets its contract: one test after the other.
 use borrow.Author.Tests.{lt-ltb, le-ltb}
 use Rattle.sheet.specs.Loops.{walked-by}
-use Rattle.sheet.proofs.walk.told.Statement.{statement}
-use Rattle.sheet.proofs.walk.told.Tie as tie
+use Rattle.sheet.proofs.fate.told.Statement.{statement}
+use Rattle.sheet.proofs.fate.told.Tie as tie
 
 returns : tie.Need-returns
 unfolding walked-by
