@@ -37,7 +37,7 @@ extern "C" {
  * dynamic linker needs more in the first call.
  */
 enum {
-    VEMBOPU_STACK_READ = 37120,
+    VEMBOPU_STACK_READ = 17152,
     VEMBOPU_STACK_REHEARSE = 2304,
     VEMBOPU_STACK_EXCHANGE = 512
 };
