@@ -1,7 +1,6 @@
 // The places of the table that records were seen at: a bit for each, 32 to a number.
 ghost use mathlib.Core.Path.{_≡_};
-ghost use Prim.Native.Nat.{_^_, _<_};
-ghost use lib.Bits.{bitOr};
+ghost use Prim.Native.Nat.{_<_};
 ghost use lib.ListN.{length};
 ghost use Rattle.refusal.specs.Cause.{written};
 ghost use Rattle.sheet.specs.Loops.{looked, with-place};
@@ -11,13 +10,6 @@ use refusal::cause::Verdict;
 
 // The numbers that have a bit for each place of the largest table.
 pub(crate) const WORDS: usize = 1152;
-
-fn with_mark(word: u32, bit: u8) -> u32
-    requires { ⌜ bit < 32 ⌝ }
-    ensures { λ r. ⌜ r ≡ bitOr word (2 ^ bit) ⌝ }
-{
-    word | 1u32 << bit
-}
 
 // Cause 13, by the places seen before. A place that passes is seen from now on.
 pub(crate) fn look(seen: &mut [u32; WORDS], p: usize) -> Verdict
@@ -29,6 +21,6 @@ pub(crate) fn look(seen: &mut [u32; WORDS], p: usize) -> Verdict
     if marks::is_marked(word, bit) {
         return Verdict::Refused(Cause::Duplicate);
     }
-    seen[p / 32] = with_mark(word, bit);
+    seen[p / 32] = word | 1u32 << bit;
     Verdict::Accepted
 }

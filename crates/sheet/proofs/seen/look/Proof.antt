@@ -1,6 +1,11 @@
 -- `seen::look` meets its contract: the place was seen, or is seen from now on.
 use borrow.Author.Needs.{needs}
+use native.Mathlib.Omega.{arith}
+use Prim.Native.Nat.{_<_}
 use mathlib.Core.Path.{refl, sym, _∙_}
+use Prim.Native.Nat.{_%_}
+use native.Mathlib.Nat.{one-mul}
+use lib.Pow.{shl-exact}
 use Rattle.refusal.proofs.HeaderLaws.{refused-true, refused-false}
 use Rattle.sheet.specs.Loops.{looked, is-seen, with-place}
 use Rattle.sheet.proofs.seen.look.Statement.{statement}
@@ -22,8 +27,11 @@ returns : tie.Need-returns
 unfolding looked is-seen
 returns c = (sym (refused-true _ (sym (c .before .is-marked .ensures) ∙ c .if1 .taken)), refl)
 
-with-mark-requires : tie.Need-with-mark-requires
-with-mark-requires c κs = search needs
+cast-seen : tie.Need-cast-seen
+cast-seen c = search needs
+
+shl-seen : tie.Need-shl-seen
+shl-seen c = search needs
 
 mul-seen : tie.Need-mul-seen
 mul-seen c = search needs
@@ -34,7 +42,9 @@ element-write-seen c = search needs
 returns-2 : tie.Need-returns-2
 unfolding looked is-seen with-place
 returns-2 c =
-    (sym (refused-false _ (sym (c .before .before .is-marked .ensures) ∙ c .before .if1 .left)), rw (c .with-mark .ensures))
+    let bit = c .before .before .before .args .p % 32 in
+    let all : bit < 32 = omega arith in
+    (sym (refused-false _ (sym (c .before .is-marked .ensures) ∙ c .if1 .left)), rw (shl-exact {a = 1} 1 bit 32 (omega arith) (omega arith), one-mul))
 
 pub look-spec : {M : Type 1} → statement M
 look-spec =
@@ -45,7 +55,8 @@ look-spec =
     cast-bit
     is-marked-requires
     returns
-    with-mark-requires
+    cast-seen
+    shl-seen
     mul-seen
     element-write-seen
     returns-2)
