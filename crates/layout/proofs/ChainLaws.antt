@@ -52,6 +52,21 @@ module _ (s : List ℕ) where
       (λ (h : records s < i). rw (le-leb 1 i (omega arith), lt-leb i (records s) h))
       o
 
+  -- and what the test tells holds
+  pub true-record : (i : ℕ) → is-record s i ≡ true → Record s i
+  true-record i e =
+      ⊎-elim
+      (λ (o : Over s i). let z : _≡_ {A = ℕ} 0 1 = cc (over-false i o) in absurd (omega arith))
+      (λ (r : Record s i). r)
+      (kind i)
+
+  pub false-over : (i : ℕ) → is-record s i ≡ false → Over s i
+  false-over i e =
+      ⊎-elim
+      (λ (o : Over s i). o)
+      (λ (r : Record s i). let z : _≡_ {A = ℕ} 0 1 = cc (record-true i r) in absurd (omega arith))
+      (kind i)
+
   -- a record's next index follows it
   pub after-record : (i : ℕ) → Record s i → after s i ≡ next s i
   unfolding after

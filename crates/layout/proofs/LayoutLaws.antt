@@ -6,24 +6,19 @@ use native.Mathlib.Omega.{arith}
 use lib.ListN.{length}
 use Rattle.layout.specs.Layout.{records, start, round, from, to, ballot, next, rest}
 use Rattle.layout.specs.Chain.{Record}
-use Rattle.layout.specs.Numbers.{numbers-from, no-numbers, record-at}
-use Rattle.layout.proofs.ChainLaws.{Over, record-true, over-false}
+use Rattle.layout.specs.Numbers.{numbers-from, record-at}
+use Rattle.layout.proofs.ChainLaws.{record-true}
 
 module _ (s : List ℕ) (i : ℕ) where
   pub record-inside : Record s i → start i + 8 ≤ length s
   unfolding start records
   record-inside r = omega (arith, r .low, r .high)
 
-  -- the numbers handed on, where a record stands and where none does
+  -- the numbers handed on are the definitions'
   pub numbers-there : Record s i → record-at s i ≡ numbers-from s (start i)
   unfolding record-at
   numbers-there r = rw (record-true s i r)
 
-  pub numbers-over : Over s i → record-at s i ≡ no-numbers
-  unfolding record-at
-  numbers-over o = rw (over-false s i o)
-
-  -- and which they are
   module _ (r : Record s i) where
     pub round-is : record-at s i .round ≡ round s i
     unfolding round numbers-from

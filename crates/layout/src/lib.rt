@@ -3,6 +3,7 @@ ghost use mathlib.Core.Path.{_≡_};
 ghost use Prim.Native.Nat.{_+_, _*_, _<_, _≤_};
 ghost use lib.ListN.{length};
 ghost use Rattle.layout.specs.Layout.{byte, header, spare, first, records};
+ghost use Rattle.layout.specs.Chain.{is-record};
 ghost use Rattle.layout.specs.Numbers.{numbers-from, no-numbers, record-at};
 
 // The numbers of a sheet's header.
@@ -80,6 +81,16 @@ pub fn records(sheet: &[u8]) -> usize
     (bytes - 12) / 8
 }
 
+// Whether i is the index of a record: from 1 to k.
+pub fn is_record(sheet: &[u8], i: usize) -> bool
+    ensures { λ r. ⌜ r ≡ is-record (now (sheet .entry)) i ⌝ }
+{
+    if i < 1 {
+        return false;
+    }
+    i <= records(sheet)
+}
+
 // The numbers of the record that starts at a byte.
 fn numbers(sheet: &[u8], at: usize) -> Record
     requires { ⌜ at + 8 ≤ length (now sheet) ⌝ }
@@ -113,11 +124,8 @@ fn nothing() -> Record
 pub fn record_at(sheet: &[u8], i: usize) -> Record
     ensures { λ r. ⌜ r ≡ record-at (now (sheet .entry)) i ⌝ }
 {
-    if i < 1 {
-        return nothing();
+    if is_record(sheet, i) {
+        return numbers(sheet, 12 + 8 * (i - 1));
     }
-    if records(sheet) < i {
-        return nothing();
-    }
-    numbers(sheet, 12 + 8 * (i - 1))
+    nothing()
 }

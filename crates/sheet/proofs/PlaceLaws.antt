@@ -1,12 +1,10 @@
 -- Laws of a record's place in the table, where cause 11 lets the record through. Assumes nothing.
 use Prim.Native.Nat.{ℕ, _+_, _-_, _/_, _%_, _<_}
-use mathlib.Core.Path.{_≡_, refl}
-use mathlib.Core.Bool.{Bool, true, false, _&&_}
+use mathlib.Core.Path.{_≡_}
+use mathlib.Core.Bool.{true, false}
 use mathlib.Core.List.{List}
 use native.Mathlib.Nat.{lt-of-lt-of-le}
 use native.Mathlib.Omega.{arith}
-use lib.Dec.{eqb}
-use borrow.Author.Tests.{eqb-true, eq-eqb}
 use Rattle.line.specs.Line.{rounds, table-length, largest-table}
 use Rattle.line.proofs.LineLaws.{place-below, place-round, place-from, place-to, table-bound}
 use Rattle.layout.specs.Layout.{header, round, from, to, rest}

@@ -1,16 +1,14 @@
 -- Laws of the walk: what holds along it, one record more, and what it tells at its end. Assumes nothing.
 use Prim.Native.Nat.{ℕ, zero, suc, _+_, _-_, _≤_, _<_}
 use mathlib.Core.Path.{_≡_, refl, sym, ap, _∙_}
-use mathlib.Core.Bool.{Bool, true, false, _||_}
-use mathlib.Core.Logic.{_≢_, _⊎_, inl, inr, ⊎-elim}
+use mathlib.Core.Logic.{_≢_, _⊎_, ⊎-elim}
 use mathlib.Core.List.{List}
 use native.Mathlib.Nat.{eq-or-lt-of-le, lt-of-lt-of-le, mul-le-mul}
 use native.Mathlib.Numerals.{add-one}
 use native.Mathlib.Omega.{arith}
-use lib.Dec.{ltb, eqb}
 use lib.ListN.{length, getD, set, replicate, length-set, length-replicate}
 use lib.Seq.{getD-set-same, getD-set-other}
-use borrow.Author.Tests.{lt-ltb, le-ltb, eqb-true, eqb-false, ltb-true, ltb-false}
+use borrow.Author.Tests.{lt-ltb, le-ltb}
 use Rattle.line.specs.Line.{table-length, largest-table}
 use Rattle.line.proofs.LineLaws.{place-below}
 use Rattle.line.proofs.CountLaws.{le-or-lt}
@@ -19,7 +17,6 @@ use Rattle.refusal.specs.declared.cause.Cause.{Cause}
 use Rattle.refusal.specs.declared.cause.Cause.the-variants.{ChainLeaves, ChainRepeats}
 use Rattle.refusal.specs.declared.cause.Verdict.{Verdict}
 use Rattle.refusal.specs.declared.cause.Verdict.the-variants.{Accepted, Refused}
-use Rattle.refusal.proofs.HeaderLaws.{neither}
 use Rattle.layout.specs.Layout.{header, records, ballot, next, first}
 use Rattle.layout.specs.Chain.{Record, reached, Fate, leaves, again, ends}
 use Rattle.layout.specs.Numbers.{record-at}
@@ -30,18 +27,14 @@ use Rattle.judgement.specs.Judgement.{record-verdict, records-verdict, chain-ve
 use Rattle.judgement.proofs.RangeLaws.{InRange, judged-by-numbers}
 use Rattle.sheet.specs.Reading.{place-of, filled}
 use Rattle.sheet.specs.Loops as loops
-use Rattle.sheet.specs.Loops.{Lined, place-by, record-by, Taken, is-over, walked-by, Hit, Kept, Whole, Told, Fated, laid}
+use Rattle.sheet.specs.Loops.{Lined, place-by, record-by, Taken, walked-by, Hit, Kept, Whole, Told, Fated, laid}
 use Rattle.sheet.specs.declared.fate.Walked.{Walked}
 use Rattle.sheet.specs.declared.fate.Walked.the-variants as walked
 use Rattle.sheet.proofs.PlaceLaws.{place-inside}
 use Rattle.sheet.proofs.TableLaws.{judged, judged-place}
 use Rattle.sheet.proofs.SeenLaws.{judged-by-seen}
 
--- ---- verdicts and tests
-
-either : (a b : Bool) → a || b ≡ true → (a ≡ true) ⊎ (b ≡ true)
-either true b e = inl refl
-either false b e = inr e
+-- ---- verdicts
 
 or-else-joins : (a b c : Verdict) → (a or-else b) or-else c ≡ a or-else b or-else c
 or-else-joins Accepted b c = refl
@@ -235,18 +228,6 @@ module _ (s : List ℕ) where
   pub fated-told : (places ballots : List ℕ) (w : Walked) → Fated s w → Told s places ballots w
   fated-told places ballots (walked.Accepted m) f = absurd f
   fated-told places ballots (walked.Refused c) f = f
-
-  -- the test tells where no record stands
-  pub over-told : (i : ℕ) → is-over (records s) i ≡ true → Over s i
-  unfolding is-over
-  over-told i e = ⊎-elim (λ (z : eqb i 0 ≡ true). inl (eqb-true i 0 z)) (λ (l : ltb (records s) i ≡ true). inr (ltb-true (records s) i l)) (either (eqb i 0) (ltb (records s) i) e)
-
-  pub record-told : (i : ℕ) → is-over (records s) i ≡ false → Record s i
-  unfolding is-over
-  record-told i e =
-      let (a, b) = neither (eqb i 0) (ltb (records s) i) e in
-      let n : i ≡ 0 → ⊥ = eqb-false i 0 a in
-      record { low = omega arith; high = ltb-false (records s) i b }
 
   -- ---- the table
 

@@ -1,10 +1,10 @@
 -- What the private functions of the reader do: for their contracts, and no part of what the public call promises.
 use Prim.Native.Nat.{ℕ, zero, suc, _/_, _%_, _^_, _≤_, _<_}
 use mathlib.Core.Path.{_≡_}
-use mathlib.Core.Bool.{Bool, _||_}
+use mathlib.Core.Bool.{Bool}
 use mathlib.Core.List.{List}
 use lib.Bits.{bitOr}
-use lib.Dec.{eqb, ltb}
+use lib.Dec.{ltb}
 use lib.ListN.{length, getD, set, replicate}
 use Rattle.line.specs.Count.{if_then_else_}
 use Rattle.line.specs.Line.{from-0, rounds, place}
@@ -86,10 +86,6 @@ pub record Taken (n last marks : ℕ) (r : Record) (m : ℕ) (seen₀ places₀ 
   pub ballots-are : v ≡ Accepted → ballots₁ ≡ set ballots₀ m (r .ballot)
 
 -- ---- the walk
-
--- no record has the index i, of k records
-unfoldable pub is-over : (k i : ℕ) → Bool
-is-over k i = eqb i 0 || ltb k i
 
 -- what the index i tells, where the walk stops, if a chain that ends tells w
 unfoldable pub walked-by : (k i : ℕ) → Walked → Walked

@@ -1,19 +1,12 @@
 // What becomes of a chain, and with it of the walk.
 ghost use mathlib.Core.Path.{_≡_};
-ghost use Rattle.sheet.specs.Loops.{is-over, walked-by, Hit, Fated};
+ghost use Rattle.sheet.specs.Loops.{walked-by, Hit, Fated};
 use refusal::cause::Cause;
 
 // What the walk comes to: so many records, none of them refused; or a cause.
 pub(crate) enum Walked {
     Accepted(usize),
     Refused(Cause),
-}
-
-// Whether no record has the index i, of k records.
-pub(crate) fn is_over(k: usize, i: usize) -> bool
-    ensures { λ r. ⌜ r ≡ is-over k i ⌝ }
-{
-    i == 0 || k < i
 }
 
 // What becomes of a chain by the index i at which the walk stopped, of k records: above k the chain leaves, any other than 0 was reached before, and 0 ends
@@ -39,7 +32,7 @@ pub(crate) fn walk_on(sheet: &[u8], from: usize, position: usize, hit: Cause) ->
     let mut i = from;
     let mut m = position;
     while m < k {
-        if is_over(k, i) {
+        if !layout::is_record(sheet, i) {
             return told(k, i, Walked::Refused(hit));
         }
         let record = layout::record_at(sheet, i);

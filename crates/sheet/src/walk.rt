@@ -67,7 +67,7 @@ pub(crate) fn walk(
     let mut i = layout::first(sheet);
     let mut m: usize = 0;
     while m < k {
-        if fate::is_over(k, i) {
+        if !layout::is_record(sheet, i) {
             return fate::told(k, i, Walked::Accepted(m));
         }
         let record = layout::record_at(sheet, i);

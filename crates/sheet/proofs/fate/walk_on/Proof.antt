@@ -4,9 +4,11 @@ use native.Mathlib.Omega.{arith}
 use Prim.Native.Nat.{_-_, _<_}
 use mathlib.Core.Path.{_≡_, sym, _∙_}
 use mathlib.Core.Logic.{inl, inr}
+use borrow.Author.Tests.{not-true, not-false}
 use Rattle.layout.specs.Layout.{records}
+use Rattle.layout.proofs.ChainLaws.{true-record, false-over}
 use Rattle.sheet.specs.Loops.{Hit}
-use Rattle.sheet.proofs.WalkLaws.{hit-turn, hit-told, over-told, record-told}
+use Rattle.sheet.proofs.WalkLaws.{hit-turn, hit-told}
 use Rattle.sheet.proofs.fate.walk_on.Statement.{statement}
 use Rattle.sheet.proofs.fate.walk_on.Tie as tie
 
@@ -22,8 +24,8 @@ records-requires c κs = search needs
 loop-holds : tie.Need-loop-holds Inv-loop μ-loop
 loop-holds c = (c .records .ensures, c .before .before .pre)
 
-is-over-requires : tie.Need-is-over-requires Inv-loop μ-loop
-is-over-requires c κs = search needs
+is-record-requires : tie.Need-is-record-requires Inv-loop μ-loop
+is-record-requires c κs = search needs
 
 told-requires : tie.Need-told-requires Inv-loop μ-loop
 told-requires c κs = search needs
@@ -32,7 +34,7 @@ returns : tie.Need-returns Inv-loop μ-loop
 returns c =
     let inv = c .before .before .before .before .loop .inv in
     rw (c .told .ensures, inv .0)
-    (hit-told _ _ _ _ (inv .1) (inl (over-told _ _ (rw (← inv .0) (sym (c .before .before .is-over .ensures) ∙ c .before .if1 .taken)))))
+    (hit-told _ _ _ _ (inv .1) (inl (false-over _ _ (sym (c .before .before .is-record .ensures) ∙ not-true _ (c .before .if1 .taken)))))
 
 record-at-requires : tie.Need-record-at-requires Inv-loop μ-loop
 record-at-requires c κs = search needs
@@ -47,7 +49,7 @@ loop-again : tie.Need-loop-again Inv-loop μ-loop
 loop-again c =
     let s = c .before .before .before .before .before .before .before .args .sheet .now in
     let inv = c .before .before .before .before .loop .inv in
-    let here = record-told s (c .before .before .before .before .loop .i) (rw (← inv .0) (sym (c .before .before .is-over .ensures) ∙ c .before .if1 .left)) in
+    let here = true-record s (c .before .before .before .before .loop .i) (sym (c .before .before .is-record .ensures) ∙ not-false _ (c .before .if1 .left)) in
     let room : c .before .before .before .before .loop .m < records s = omega (arith, inv .0, c .before .before .before .loop-test) in
     (inv .0, hit-turn s _ _ _ (inv .1) here room _ (c .record-at .ensures))
 
@@ -68,7 +70,7 @@ walk-on-spec =
     μ-loop
     records-requires
     loop-holds
-    is-over-requires
+    is-record-requires
     told-requires
     returns
     record-at-requires

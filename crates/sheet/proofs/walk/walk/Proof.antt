@@ -4,10 +4,12 @@ use native.Mathlib.Omega.{arith}
 use Prim.Native.Nat.{_-_, _≤_, _<_}
 use mathlib.Core.Path.{_≡_, sym, _∙_}
 use mathlib.Core.Logic.{inl, inr}
+use borrow.Author.Tests.{not-true, not-false}
 use Rattle.layout.specs.Layout.{records}
+use Rattle.layout.proofs.ChainLaws.{true-record, false-over}
 use Rattle.sheet.specs.Loops.{unseen}
 use Rattle.sheet.proofs.SeenLaws.{seen-length}
-use Rattle.sheet.proofs.WalkLaws.{Going, going-start, going-turn, going-hit, going-told, fated-told, over-told, record-told}
+use Rattle.sheet.proofs.WalkLaws.{Going, going-start, going-turn, going-hit, going-told, fated-told}
 use Rattle.sheet.proofs.walk.walk.Statement.{statement}
 use Rattle.sheet.proofs.walk.walk.Tie as tie
 
@@ -30,8 +32,8 @@ loop-holds c =
     let p = c .before .before .before .pre in
     (c .before .records .ensures, (omega arith, rw (c .first .ensures) (going-start _ _ _ (p .1) (p .2))))
 
-is-over-requires : tie.Need-is-over-requires Inv-loop μ-loop
-is-over-requires c κs = search needs
+is-record-requires : tie.Need-is-record-requires Inv-loop μ-loop
+is-record-requires c κs = search needs
 
 told-requires : tie.Need-told-requires Inv-loop μ-loop
 told-requires c κs = search needs
@@ -40,7 +42,7 @@ returns : tie.Need-returns Inv-loop μ-loop
 returns c =
     let p = c .before .before .before .before .before .before .before .before .pre in
     let inv = c .before .before .before .before .loop .inv in
-    let over = over-told (c .before .before .before .before .before .before .before .before .args .sheet .now) (c .before .before .before .before .loop .i) (rw (← inv .0) (sym (c .before .before .is-over .ensures) ∙ c .before .if1 .taken)) in
+    let over = false-over (c .before .before .before .before .before .before .before .before .args .sheet .now) (c .before .before .before .before .loop .i) (sym (c .before .before .is-record .ensures) ∙ not-true _ (c .before .if1 .taken)) in
     rw (c .told .ensures, inv .0) (going-told _ _ _ _ _ _ (inv .1 .1) (rw (← inv .0) (inv .1 .0)) (p .0 .most) (inl over))
 
 record-at-requires : tie.Need-record-at-requires Inv-loop μ-loop
@@ -70,7 +72,7 @@ walk-on-requires c κs =
     let s = c .before .before .before .before .before .before .before .before .before .before .before .before .before .before .before .args .sheet .now in
     let p = c .before .before .before .before .before .before .before .before .before .before .before .before .before .before .before .pre in
     let inv = c .before .before .before .before .before .before .before .before .before .before .before .loop .inv in
-    let here = record-told s (c .before .before .before .before .before .before .before .before .before .before .before .loop .i) (rw (← inv .0) (sym (c .before .before .before .before .before .before .before .before .before .is-over .ensures) ∙ c .before .before .before .before .before .before .before .before .if1 .left)) in
+    let here = true-record s (c .before .before .before .before .before .before .before .before .before .before .before .loop .i) (sym (c .before .before .before .before .before .before .before .before .before .is-record .ensures) ∙ not-false _ (c .before .before .before .before .before .before .before .before .if1 .left)) in
     let room : c .before .before .before .before .before .before .before .before .before .before .before .loop .m < records s = omega (arith, inv .0, c .before .before .before .before .before .before .before .before .before .before .loop-test) in
     going-hit s _ _ _ (p .0) _ _ _ _ _ (inv .1 .1) here room _ (c .before .before .before .before .before .before .before .record-at .ensures) _ _ _ _ (c .before .before .before .judge .ensures) _ (c .before .verdict .given .1)
 
@@ -91,7 +93,7 @@ loop-again c =
     let s = c .before .before .before .before .before .before .before .before .before .before .before .before .before .before .args .sheet .now in
     let p = c .before .before .before .before .before .before .before .before .before .before .before .before .before .before .pre in
     let inv = c .before .before .before .before .before .before .before .before .before .before .loop .inv in
-    let here = record-told s (c .before .before .before .before .before .before .before .before .before .before .loop .i) (rw (← inv .0) (sym (c .before .before .before .before .before .before .before .before .is-over .ensures) ∙ c .before .before .before .before .before .before .before .if1 .left)) in
+    let here = true-record s (c .before .before .before .before .before .before .before .before .before .before .loop .i) (sym (c .before .before .before .before .before .before .before .before .is-record .ensures) ∙ not-false _ (c .before .before .before .before .before .before .before .if1 .left)) in
     let room : c .before .before .before .before .before .before .before .before .before .before .loop .m < records s = omega (arith, inv .0, c .before .before .before .before .before .before .before .before .before .loop-test) in
     (inv .0, (omega arith, going-turn s _ _ _ (p .0) _ _ _ _ _ (inv .1 .1) here room _ (c .before .before .before .before .before .before .record-at .ensures) _ _ _ _ (c .before .before .judge .ensures) (c .enum-told .given .1)))
 
@@ -114,7 +116,7 @@ walk-spec =
     records-requires
     first-requires
     loop-holds
-    is-over-requires
+    is-record-requires
     told-requires
     returns
     record-at-requires
