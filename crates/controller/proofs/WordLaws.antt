@@ -2,7 +2,7 @@
 use Prim.Native.Nat.{ℕ}
 use mathlib.Core.Path.{_≡_}
 use mathlib.Core.List.{List}
-use Rattle.station.specs.declared.Station.{Station}
+use Rattle.state.specs.declared.Station.{Station}
 use Rattle.station.specs.declared.Opened.{Opened}
 use Rattle.station.specs.declared.Told.{Told}
 use Rattle.station.specs.declared.Advanced.{Advanced}

@@ -4,9 +4,9 @@ ghost use mathlib.Core.Path.{_≡_};
 ghost use Rattle.controller.specs.Words.{station-of, state-word, answer-word, opened-word, told-word, advanced-word, result-word};
 ghost use Rattle.controller.specs.Words.{OpenAnswer, BallotAnswer, AdvanceAnswer, ResultAnswer};
 use refusal::cause::Cause;
+use state::Station;
 use station::Advanced;
 use station::Opened;
-use station::Station;
 use station::StationResult;
 use station::Told;
 

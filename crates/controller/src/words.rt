@@ -1,7 +1,7 @@
 // Bytes put into words and taken out again, the lowest byte first.
 ghost use mathlib.Core.Path.{_≡_};
 ghost use Rattle.controller.specs.Words.{word, station-of, state-word, answer-word};
-use station::Station;
+use state::Station;
 
 // Four bytes as one number.
 pub(crate) fn four(a: u8, b: u8, c: u8, d: u8) -> u32

@@ -6,10 +6,10 @@ use lib.ListN.{length}
 use Rattle.refusal.specs.Cause.{number, code}
 use Rattle.refusal.specs.declared.cause.Verdict.{Verdict}
 use Rattle.refusal.specs.declared.cause.Verdict.the-variants as verdict
-use Rattle.station.specs.declared.Station.{Station}
+use Rattle.state.specs.declared.Station.{Station}
 use Rattle.station.specs.declared.Advanced.{Advanced}
 use Rattle.station.specs.declared.Advanced.the-variants as advanced
-use Rattle.station.specs.Judgement.{taking-verdict}
+use Rattle.state.specs.Judgement.{taking-verdict}
 use Rattle.station.specs.Answers.{advanced-by, Advances}
 use Rattle.lent.specs.declared.Taken.{Taken}
 use Rattle.lent.specs.declared.Taken.the-variants.{Next, Refused}

@@ -7,8 +7,8 @@ use Rattle.refusal.specs.Cause.{number, code}
 use Rattle.refusal.specs.declared.cause.Verdict.{Verdict}
 use Rattle.refusal.specs.declared.cause.Verdict.the-variants as verdict
 use Rattle.broadcast.specs.Station.{advance, at}
-use Rattle.station.specs.declared.Station.{Station}
-use Rattle.station.specs.Judgement.{taking-verdict}
+use Rattle.state.specs.declared.Station.{Station}
+use Rattle.state.specs.Judgement.{taking-verdict}
 use Rattle.station.specs.Automaton.{setup-of, state-of, in-state}
 use Rattle.lent.specs.declared.Taken.{Taken}
 use Rattle.lent.specs.declared.Taken.the-variants.{Next, Refused}

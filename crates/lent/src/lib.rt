@@ -2,8 +2,8 @@
 ghost use mathlib.Core.Path.{_≡_};
 ghost use Rattle.lent.specs.Lent.{taken, AdvancesLent};
 use refusal::cause::Cause;
+use state::Station;
 use station::Advanced;
-use station::Station;
 
 // What a row makes of a station: the one after it, or the number of the cause by which the row is refused.
 enum Taken {

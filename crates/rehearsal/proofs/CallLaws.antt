@@ -17,7 +17,7 @@ use Rattle.broadcast.specs.Guarantees.{Good}
 use Rattle.broadcast.specs.Theorems.{value-at, grade-at, flag-at, Follows, PutTogether, MakeRun}
 use Rattle.broadcast.proofs.BytesLaws.{length-tabulate}
 use Rattle.broadcast.proofs.Theorems.{log-bytes, outcome-bytes, station-follows-run, stations-make-run, done-after-rows}
-use Rattle.station.specs.declared.Station.{Station}
+use Rattle.state.specs.declared.Station.{Station}
 use Rattle.station.specs.declared.Opened.{Opened}
 use Rattle.station.specs.declared.Opened.the-variants.{Ready}
 use Rattle.station.specs.declared.Told.{Told}
@@ -26,10 +26,10 @@ use Rattle.station.specs.declared.Advanced.{Advanced}
 use Rattle.station.specs.declared.Advanced.the-variants.{Next}
 use Rattle.station.specs.declared.StationResult.{StationResult}
 use Rattle.station.specs.declared.StationResult.the-variants.{Done}
-use Rattle.station.specs.Judgement.{opening-verdict}
+use Rattle.state.specs.Judgement.{opening-verdict}
 use Rattle.station.specs.Answers.{ballot-answer, advance-answer, result-answer}
 use Rattle.station.specs.Theorems as calls
-use Rattle.station.proofs.SoundLaws.{opening-accepts}
+use Rattle.state.proofs.SoundLaws.{opening-accepts}
 use Rattle.station.proofs.Theorems.{calls-in-a-row}
 use Rattle.rehearsal.specs.Calls.{Singly, MadeOfCalls, Values, SingleStations}
 

@@ -11,7 +11,7 @@ use Rattle.broadcast.specs.Station.{at}
 use Rattle.broadcast.specs.Bytes.{Run, column}
 use Rattle.broadcast.specs.Guarantees.{Good}
 use Rattle.broadcast.specs.Theorems.{value-at, grade-at, flag-at}
-use Rattle.station.specs.declared.Station.{Station}
+use Rattle.state.specs.declared.Station.{Station}
 use Rattle.station.specs.declared.Opened.the-variants.{Ready}
 use Rattle.station.specs.declared.Told.the-variants.{Ballot}
 use Rattle.station.specs.declared.Advanced.the-variants.{Next}

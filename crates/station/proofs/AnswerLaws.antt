@@ -7,12 +7,12 @@ use Rattle.refusal.specs.Cause.{code, given}
 use Rattle.refusal.specs.declared.cause.Verdict.{Verdict}
 use Rattle.refusal.specs.declared.cause.Verdict.the-variants.{Accepted, Refused}
 use Rattle.broadcast.specs.Station.{ballot, advance, Result, running, done, result, at}
-use Rattle.station.specs.declared.Station.{Station}
+use Rattle.state.specs.declared.Station.{Station}
 use Rattle.station.specs.declared.Opened.{Opened}
 use Rattle.station.specs.declared.Told.{Told}
 use Rattle.station.specs.declared.Advanced.{Advanced}
 use Rattle.station.specs.declared.StationResult.{StationResult}
-use Rattle.station.specs.Judgement.{station-verdict, telling-verdict, taking-verdict, opening-verdict}
+use Rattle.state.specs.Judgement.{station-verdict, telling-verdict, taking-verdict, opening-verdict}
 use Rattle.station.specs.Automaton.{setup-of, state-of, in-state, opened-station, as-result, result-of}
 use Rattle.station.specs.Answers.{bytes-of, opened-number, opened-values, opened-by, Opens, told-number, told-values, told-by, Tells, advanced-number, advanced-values, advanced-by, Advances, result-number, result-values, result-by, automaton-values, Results}
 

@@ -13,12 +13,12 @@ use Rattle.refusal.specs.declared.cause.Verdict.the-variants.{Accepted, Refused
 use Rattle.refusal.proofs.HeaderLaws.{both-accepted, accepted-false, refused-true, inside, line-sound}
 use Rattle.broadcast.specs.Station.{advance, result, at, after}
 use Rattle.broadcast.proofs.RoundLaws.{after-range, after-round, done-after}
-use Rattle.station.specs.declared.Station.{Station}
-use Rattle.station.specs.Judgement.{is-done, telling-verdict, taking-verdict, opening-verdict, Sound}
+use Rattle.state.specs.declared.Station.{Station}
+use Rattle.state.specs.Judgement.{is-done, telling-verdict, taking-verdict, opening-verdict, Sound}
 use Rattle.station.specs.Automaton.{setup-of, state-of, in-state, opened-station, as-result, result-of}
 use Rattle.station.specs.Answers.{result-by, result-answer}
 use Rattle.station.specs.Theorems.{Opening, setup, state-after, station-after, InARow}
-use Rattle.station.proofs.SoundLaws.{sound-accepts, telling-accepts, taking-accepts}
+use Rattle.state.proofs.SoundLaws.{sound-accepts, telling-accepts, taking-accepts}
 
 -- what opening lets through
 record Opens-well (o : Opening) : Type 0 where

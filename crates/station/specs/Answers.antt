@@ -8,7 +8,7 @@ use Rattle.refusal.specs.Cause.{number, code, given}
 use Rattle.refusal.specs.declared.cause.Verdict.{Verdict}
 use Rattle.refusal.specs.declared.cause.Verdict.the-variants as verdict
 use Rattle.broadcast.specs.Station.{ballot, advance, Result, running, done, result, at}
-use Rattle.station.specs.declared.Station.{Station}
+use Rattle.state.specs.declared.Station.{Station}
 use Rattle.station.specs.declared.Opened.{Opened}
 use Rattle.station.specs.declared.Opened.the-variants as opened
 use Rattle.station.specs.declared.Told.{Told}
@@ -17,7 +17,7 @@ use Rattle.station.specs.declared.Advanced.{Advanced}
 use Rattle.station.specs.declared.Advanced.the-variants as advanced
 use Rattle.station.specs.declared.StationResult.{StationResult}
 use Rattle.station.specs.declared.StationResult.the-variants as station-result
-use Rattle.station.specs.Judgement.{station-verdict, telling-verdict, taking-verdict, opening-verdict}
+use Rattle.state.specs.Judgement.{station-verdict, telling-verdict, taking-verdict, opening-verdict}
 use Rattle.station.specs.Automaton.{setup-of, state-of, in-state, opened-station, result-of}
 
 -- ---- opening

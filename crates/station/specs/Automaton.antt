@@ -3,7 +3,7 @@
 use Prim.Native.Nat.{ℕ}
 use Rattle.line.specs.Line.{from-0}
 use Rattle.broadcast.specs.Station.{Setup, State, opened, Result, running, done, result}
-use Rattle.station.specs.declared.Station.{Station}
+use Rattle.state.specs.declared.Station.{Station}
 use Rattle.station.specs.declared.StationResult.{StationResult}
 use Rattle.station.specs.declared.StationResult.the-variants.{Running, Done}
 

@@ -8,12 +8,12 @@ use Rattle.refusal.specs.declared.cause.Cause.the-variants.{StationState}
 use Rattle.refusal.specs.declared.cause.Verdict.the-variants.{Accepted}
 use Rattle.broadcast.specs.Exchange.{flag-of}
 use Rattle.broadcast.specs.Station.{Setup, State, ballot, after}
-use Rattle.station.specs.declared.Station.{Station}
+use Rattle.state.specs.declared.Station.{Station}
 use Rattle.station.specs.declared.Opened.the-variants as opened
 use Rattle.station.specs.declared.Told.the-variants as told
 use Rattle.station.specs.declared.Advanced.the-variants as advanced
 use Rattle.station.specs.declared.StationResult.the-variants as station-result
-use Rattle.station.specs.Judgement.{opening-verdict}
+use Rattle.state.specs.Judgement.{opening-verdict}
 use Rattle.station.specs.Automaton.{station-in}
 use Rattle.station.specs.Answers.{open-answer, ballot-answer, advance-answer, result-answer}
 

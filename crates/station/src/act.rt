@@ -6,13 +6,13 @@ ghost use Rattle.broadcast.specs.Station.{ballot, next, taken, advance, at};
 ghost use Rattle.step.specs.Part.{of-part};
 ghost use Rattle.step.specs.declared.Part.the-variants.{Sender, First, Second, King};
 ghost use Rattle.station.specs.Automaton.{setup-of, state-of, in-state, opened-station, result-of};
-ghost use Rattle.station.specs.Judgement.{Sound, Ready};
-use crate::Station;
+ghost use Rattle.state.specs.Judgement.{Sound, Ready};
 use crate::StationResult;
-use crate::judge;
 use crate::tally;
 use line::Line;
 use line::ballot;
+use state::Station;
+use state::judge;
 use step::Part;
 
 // Before round 1: z is blank and the grade 0 until they are set.

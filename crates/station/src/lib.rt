@@ -5,24 +5,11 @@ ghost use lib.ListN.{length};
 ghost use Rattle.station.specs.Answers.{Opens, Tells, Advances, Results};
 use refusal::cause::Cause;
 use refusal::cause::Verdict;
+use state::Station;
+use state::judge;
 
 mod act;
-mod judge;
 mod tally;
-
-// What a station is opened with, and its state. Stations are numbered from 1. Any bytes may stand in it: each call judges them.
-#[repr(C)]
-pub struct Station {
-    pub n: u8,
-    pub t: u8,
-    pub upper: u8,
-    pub sender: u8,
-    pub own: u8,
-    pub round: u8,
-    pub value: u8,
-    pub z: u8,
-    pub grade: u8,
-}
 
 // The answer to opening.
 pub enum Opened {

@@ -47,11 +47,11 @@ use denote.Triple.Clauses.{ensured, lasts}
 use denote.Exit.{yes}
 use Rattle.lent.specs.Lent.{taken, AdvancesLent}
 use Rattle.lent.proofs.StepLaws.{lent-next, lent-refused}
-use Rattle.station.specs.declared.Station.{Station}
+use Rattle.state.specs.declared.Station.{Station}
 use Rattle.lent.specs.declared.Taken.{Taken}
 use Rattle.lent.specs.declared.Taken.the-variants.{Next, Refused}
-use Rattle.station.proofs.Station as T
-use Rattle.station.proofs.Station.Laws as T′
+use Rattle.state.proofs.Station as T
+use Rattle.state.proofs.Station.Laws as T′
 use Rattle.lent.proofs.Taken as R
 use Rattle.lent.proofs.Taken.Laws as R′
 use Rattle.lent.proofs.take as g

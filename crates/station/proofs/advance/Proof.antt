@@ -2,7 +2,7 @@
 use borrow.Author.Needs.{needs}
 use mathlib.Core.Path.{sym, _∙_}
 use Rattle.station.proofs.AnswerLaws.{advances}
-use Rattle.station.proofs.SoundLaws.{ready}
+use Rattle.state.proofs.SoundLaws.{ready}
 use Rattle.station.proofs.advance.Statement.{statement}
 use Rattle.station.proofs.advance.Tie as tie
 

@@ -2,7 +2,7 @@
 use borrow.Author.Needs.{needs}
 use mathlib.Core.Path.{sym, _∙_}
 use Rattle.station.proofs.AnswerLaws.{tells}
-use Rattle.station.proofs.SoundLaws.{telling-sound}
+use Rattle.state.proofs.SoundLaws.{telling-sound}
 use Rattle.station.proofs.ballot.Statement.{statement}
 use Rattle.station.proofs.ballot.Tie as tie
 

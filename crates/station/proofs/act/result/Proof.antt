@@ -3,7 +3,7 @@ use borrow.Author.Needs.{needs}
 use mathlib.Core.Path.{sym, _∙_}
 use Rattle.broadcast.specs.Station.{result}
 use Rattle.station.specs.Automaton.{result-of}
-use Rattle.station.specs.Judgement.{is-done}
+use Rattle.state.specs.Judgement.{is-done}
 use Rattle.station.proofs.act.result.Statement.{statement}
 use Rattle.station.proofs.act.result.Tie as tie
 

@@ -1,8 +1,7 @@
 -- `act::take` meets its contract: each part by its case.
 use borrow.Author.Needs.{needs}
 use mathlib.Core.Path.{sym, _∙_}
-use Rattle.station.proofs.SoundLaws.{king-within}
-use Rattle.station.proofs.TakeLaws.{part-taken}
+use Rattle.station.proofs.TakeLaws.{king-within, part-taken}
 use Rattle.station.proofs.act.take.Statement.{statement}
 use Rattle.station.proofs.act.take.Tie as tie
 

@@ -1,8 +1,8 @@
--- `judge::opening` meets its contract.
+-- `judge::station` meets its contract.
 use borrow.Author.Needs.{needs}
-use Rattle.station.specs.Judgement.{opening-verdict}
-use Rattle.station.proofs.judge.opening.Statement.{statement}
-use Rattle.station.proofs.judge.opening.Tie as tie
+use Rattle.state.specs.Judgement.{station-verdict}
+use Rattle.state.proofs.judge.station.Statement.{statement}
+use Rattle.state.proofs.judge.station.Tie as tie
 
 line-verdict-requires : tie.Need-line-verdict-requires
 line-verdict-requires c κs = search needs
@@ -13,8 +13,8 @@ station-number-requires c κs = search needs
 station-number-requires-2 : tie.Need-station-number-requires-2
 station-number-requires-2 c κs = search needs
 
-bit-requires : tie.Need-bit-requires
-bit-requires c κs = search needs
+state-requires : tie.Need-state-requires
+state-requires c κs = search needs
 
 or-else-requires : tie.Need-or-else-requires
 or-else-requires c κs = search needs
@@ -26,17 +26,17 @@ or-else-requires-3 : tie.Need-or-else-requires-3
 or-else-requires-3 c κs = search needs
 
 returns : tie.Need-returns
-unfolding opening-verdict
+unfolding station-verdict
 returns c = cc
 
-pub opening-spec : {M : Type 1} → statement M
-opening-spec =
+pub station-spec : {M : Type 1} → statement M
+station-spec =
     tie.close
     (tie.spec
     line-verdict-requires
     station-number-requires
     station-number-requires-2
-    bit-requires
+    state-requires
     or-else-requires
     or-else-requires-2
     or-else-requires-3

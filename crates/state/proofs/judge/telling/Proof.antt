@@ -1,8 +1,8 @@
 -- `judge::telling` meets its contract.
 use borrow.Author.Needs.{needs}
-use Rattle.station.specs.Judgement.{telling-verdict}
-use Rattle.station.proofs.judge.telling.Statement.{statement}
-use Rattle.station.proofs.judge.telling.Tie as tie
+use Rattle.state.specs.Judgement.{telling-verdict}
+use Rattle.state.proofs.judge.telling.Statement.{statement}
+use Rattle.state.proofs.judge.telling.Tie as tie
 
 station-requires : tie.Need-station-requires
 station-requires c κs = search needs

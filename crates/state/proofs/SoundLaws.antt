@@ -1,26 +1,19 @@
 -- A station that is not refused is as document 01 wants it. Assumes nothing.
-use Prim.Native.Nat.{ℕ, _+_, _-_, _/_, _%_, _≤_, _<_}
-use mathlib.Core.Path.{_≡_, refl, ap}
-use mathlib.Core.Bool.{Bool, true, false}
+use Prim.Native.Nat.{ℕ, _+_, _≤_, _<_}
+use mathlib.Core.Path.{_≡_, refl}
 use mathlib.Core.List.{List}
 use mathlib.Core.Logic.{_⊎_, inl, inr}
 use native.Mathlib.Omega.{arith}
-use lib.Dec.{eqb}
 use lib.ListN.{length}
 use borrow.Author.Tests.{ltb-false, eqb-false, le-ltb, ne-eqb}
-use Rattle.line.specs.Count.{if_then_else_}
 use Rattle.line.specs.Line.{rounds}
 use Rattle.refusal.specs.Header.{station-number}
 use Rattle.refusal.specs.declared.cause.Verdict.the-variants.{Accepted}
 use Rattle.line.proofs.CountLaws.{le-or-lt}
 use Rattle.refusal.specs.Header as header
 use Rattle.refusal.proofs.HeaderLaws.{both-accepted, accepted-false, refused-false, neither, inside, inside-not, line-sound, line-accepts, length-exact, number-accepts, bit-accepts, length-accepts}
-use Rattle.broadcast.specs.Broadcast.{from-sender, first-of, second-of, from-king, part}
-use Rattle.step.specs.declared.Part.{Part}
-use Rattle.step.specs.declared.Part.the-variants.{Sender, First, Second, King}
-use Rattle.step.specs.Part.{as-part}
-use Rattle.station.specs.declared.Station.{Station}
-use Rattle.station.specs.Judgement.{foreign-state, is-done, state-verdict, station-verdict, telling-verdict, taking-verdict, opening-verdict, Sound, Ready}
+use Rattle.state.specs.declared.Station.{Station}
+use Rattle.state.specs.Judgement.{foreign-state, is-done, state-verdict, station-verdict, telling-verdict, taking-verdict, opening-verdict, Sound, Ready}
 
 pub sound : (s : Station) → station-verdict s ≡ Accepted → Sound s
 unfolding station-verdict station-number state-verdict foreign-state
@@ -93,27 +86,3 @@ pub opening-accepts : (n t T sender own value marks : ℕ) → header.Sound n t 
 unfolding opening-verdict
 opening-accepts n t T sender own value marks h a b =
     rw (line-accepts n t T (h .most) (h .fits), number-accepts n sender (h .sender-low) (h .sender-high), number-accepts n own a b, bit-accepts value (h .value-bit))
-
--- ---- a king's round has one of the t + 1 kings, who is a station
-
-abbrev king-or-0 : Part → ℕ
-king-or-0 Sender = 0
-king-or-0 First = 0
-king-or-0 Second = 0
-king-or-0 (King k) = k
-
-king-high : (r t : ℕ) → r ≤ rounds t → king-or-0 (as-part (part r)) ≤ t
-unfolding part
-king-high r t h = go (eqb r 1) (eqb (r % 3) 2) (eqb (r % 3) 0) refl refl
-  where
-    go : (a b d : Bool) → eqb (r % 3) 2 ≡ b → eqb (r % 3) 0 ≡ d
-        → king-or-0 (as-part (if a then from-sender else (if b then first-of (r / 3) else (if d then second-of (r / 3 - 1) else from-king (r / 3 - 1)))))
-        ≤ t
-    go true b d p q = omega arith
-    go false true d p q = omega arith
-    go false false true p q = omega arith
-    go false false false p q = omega (arith, eqb-false (r % 3) 2 p, eqb-false (r % 3) 0 q)
-
-pub king-within : (s : Station) (row : List ℕ) (k : ℕ) → Ready s row → King k ≡ as-part (part (s .round)) → k < s .n
-king-within s row k h e =
-    omega (arith, ap king-or-0 e, king-high (s .round) (s .t) (h .round-left), h .sound .fits .order, h .sound .fits .room)

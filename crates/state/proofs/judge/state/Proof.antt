@@ -1,8 +1,8 @@
 -- `judge::state` meets its contract.
 use borrow.Author.Needs.{needs}
-use Rattle.station.specs.Judgement.{state-verdict}
-use Rattle.station.proofs.judge.state.Statement.{statement}
-use Rattle.station.proofs.judge.state.Tie as tie
+use Rattle.state.specs.Judgement.{state-verdict}
+use Rattle.state.proofs.judge.state.Statement.{statement}
+use Rattle.state.proofs.judge.state.Tie as tie
 
 foreign-state-requires : tie.Need-foreign-state-requires
 foreign-state-requires c κs = search needs

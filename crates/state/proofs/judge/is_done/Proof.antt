@@ -4,9 +4,9 @@ use Prim.Native.Nat.{_+_}
 use mathlib.Core.Path.{_≡_}
 use native.Mathlib.Omega.{arith}
 use Rattle.line.specs.Line.{rounds}
-use Rattle.station.specs.Judgement.{is-done}
-use Rattle.station.proofs.judge.is_done.Statement.{statement}
-use Rattle.station.proofs.judge.is_done.Tie as tie
+use Rattle.state.specs.Judgement.{is-done}
+use Rattle.state.proofs.judge.is_done.Statement.{statement}
+use Rattle.state.proofs.judge.is_done.Tie as tie
 
 last-round-requires : tie.Need-last-round-requires
 last-round-requires c κs = search needs

@@ -10,7 +10,7 @@ use Rattle.refusal.specs.Cause.{refused-if, _or-else_}
 use Rattle.refusal.specs.Header.{outside, line-verdict, station-number, bit, exact-length}
 use Rattle.refusal.specs.declared.cause.Cause.the-variants.{StationState}
 use Rattle.refusal.specs.declared.cause.Verdict.{Verdict}
-use Rattle.station.specs.declared.Station.{Station}
+use Rattle.state.specs.declared.Station.{Station}
 
 -- "a station state whose round is outside 1 to R+1, value above 1, z or grade above 2"
 unfoldable pub foreign-state : ℕ → ℕ → ℕ → ℕ → ℕ → Bool

@@ -5,9 +5,9 @@ use native.Mathlib.Omega.{arith}
 use borrow.Author.Tests.{lt-ltb, le-ltb}
 use Rattle.line.specs.Line.{rounds}
 use Rattle.refusal.specs.Header.{outside}
-use Rattle.station.specs.Judgement.{foreign-state}
-use Rattle.station.proofs.judge.foreign_state.Statement.{statement}
-use Rattle.station.proofs.judge.foreign_state.Tie as tie
+use Rattle.state.specs.Judgement.{foreign-state}
+use Rattle.state.proofs.judge.foreign_state.Statement.{statement}
+use Rattle.state.proofs.judge.foreign_state.Tie as tie
 
 returns : tie.Need-returns
 unfolding foreign-state outside

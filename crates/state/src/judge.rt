@@ -1,8 +1,8 @@
-// What is refused: causes 2, 3, 4, 5, 7 and 8, the lowest first.
+// What a station's calls refuse: causes 2, 3, 4, 5, 7 and 8, the lowest first.
 ghost use mathlib.Core.Path.{_≡_};
 ghost use Prim.Native.Nat.{_+_};
 ghost use Rattle.line.specs.Line.{rounds};
-ghost use Rattle.station.specs.Judgement.{foreign-state, is-done, state-verdict, station-verdict, telling-verdict, taking-verdict, opening-verdict};
+ghost use Rattle.state.specs.Judgement.{foreign-state, is-done, state-verdict, station-verdict, telling-verdict, taking-verdict, opening-verdict};
 use crate::Station;
 use line::Line;
 use refusal::cause::Cause;
@@ -36,7 +36,7 @@ fn foreign_state(t: u8, round: u8, value: u8, z: u8, grade: u8) -> bool
     2 < grade
 }
 
-pub(crate) fn is_done(t: u8, round: u8) -> bool
+pub fn is_done(t: u8, round: u8) -> bool
     ensures { λ r. ⌜ r ≡ is-done t round ⌝ }
 {
     round as usize == last_round(t)
@@ -53,7 +53,7 @@ fn state(s: Station) -> Verdict
 }
 
 // Causes 2, 3, 4 and 7 of a station's content.
-pub(crate) fn station(s: Station) -> Verdict
+pub fn station(s: Station) -> Verdict
     ensures { λ r. ⌜ r ≡ station-verdict s ⌝ }
 {
     let line = Line {
@@ -69,7 +69,7 @@ pub(crate) fn station(s: Station) -> Verdict
 }
 
 // .. and 7 where a ballot is wanted of a done station.
-pub(crate) fn telling(s: Station) -> Verdict
+pub fn telling(s: Station) -> Verdict
     ensures { λ r. ⌜ r ≡ telling-verdict s ⌝ }
 {
     let a = station(s);
@@ -78,7 +78,7 @@ pub(crate) fn telling(s: Station) -> Verdict
 }
 
 // .. and 8 for a row of another length than n.
-pub(crate) fn taking(s: Station, row_len: usize) -> Verdict
+pub fn taking(s: Station, row_len: usize) -> Verdict
     ensures { λ r. ⌜ r ≡ taking-verdict s «row_len» ⌝ }
 {
     let a = telling(s);
@@ -87,7 +87,7 @@ pub(crate) fn taking(s: Station, row_len: usize) -> Verdict
 }
 
 // Causes 2, 3, 4 and 5 of what a station is opened with.
-pub(crate) fn opening(n: u8, t: u8, upper: u8, sender: u8, own: u8, value: u8) -> Verdict
+pub fn opening(n: u8, t: u8, upper: u8, sender: u8, own: u8, value: u8) -> Verdict
     ensures { λ r. ⌜ r ≡ opening-verdict n t upper sender own value ⌝ }
 {
     let a = header::line_verdict(Line { n, t, upper });

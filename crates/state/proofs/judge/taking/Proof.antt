@@ -1,8 +1,8 @@
 -- `judge::taking` meets its contract.
 use borrow.Author.Needs.{needs}
-use Rattle.station.specs.Judgement.{taking-verdict}
-use Rattle.station.proofs.judge.taking.Statement.{statement}
-use Rattle.station.proofs.judge.taking.Tie as tie
+use Rattle.state.specs.Judgement.{taking-verdict}
+use Rattle.state.proofs.judge.taking.Statement.{statement}
+use Rattle.state.proofs.judge.taking.Tie as tie
 
 telling-requires : tie.Need-telling-requires
 telling-requires c κs = search needs
