@@ -67,11 +67,8 @@ pub fn less(n: u8, threshold: u8) -> u8
 pub fn z(n: u8, upper: u8, x: u8, count: u8) -> u8
     ensures { λ r. ⌜ r ≡ z-from n upper x count ⌝ }
 {
-    if less(n, upper) <= count {
-        x
-    } else {
-        Line::BLANK
-    }
+    let quorum = less(n, upper);
+    if quorum <= count { x } else { Line::BLANK }
 }
 
 // Step 4: y, from the zeros and the ones.
