@@ -1,7 +1,6 @@
 // What an accepted station does. The steps are those of crate step.
 ghost use mathlib.Core.Path.{_≡_};
-ghost use Prim.Native.Nat.{ℕ, _+_, _-_, _*_, _≤_, _<_};
-ghost use lib.ListN.{length};
+ghost use Prim.Native.Nat.{_<_};
 ghost use Rattle.broadcast.specs.Station.{ballot, next, taken, advance, at};
 ghost use Rattle.step.specs.Part.{of-part};
 ghost use Rattle.step.specs.declared.Part.the-variants.{Sender, First, Second, King};

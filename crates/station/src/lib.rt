@@ -1,7 +1,4 @@
 // One station as it runs in a bonder, by value: opened, asked for its ballot, handed the row that it received, asked for its result.
-ghost use mathlib.Core.Path.{_≡_};
-ghost use Prim.Native.Nat.{ℕ, _+_, _-_, _/_, _≤_, _<_};
-ghost use lib.ListN.{length};
 ghost use Rattle.station.specs.Answers.{Opens, Tells, Advances, Results};
 use refusal::cause::Cause;
 use refusal::cause::Verdict;
