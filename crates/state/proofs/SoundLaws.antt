@@ -1,6 +1,6 @@
 -- A station that is not refused is as document 01 wants it. Assumes nothing.
 use Prim.Native.Nat.{ℕ, _+_, _≤_, _<_}
-use mathlib.Core.Path.{_≡_, refl}
+use mathlib.Core.Path.{_≡_, refl, _∙_}
 use mathlib.Core.List.{List}
 use mathlib.Core.Logic.{_⊎_, inl, inr}
 use native.Mathlib.Omega.{arith}
@@ -8,12 +8,23 @@ use lib.ListN.{length}
 use borrow.Author.Tests.{ltb-false, eqb-false, le-ltb, ne-eqb}
 use Rattle.line.specs.Line.{rounds}
 use Rattle.refusal.specs.Header.{station-number}
-use Rattle.refusal.specs.declared.cause.Verdict.the-variants.{Accepted}
+use Rattle.refusal.specs.Cause.{_or-else_}
+use Rattle.refusal.specs.declared.cause.Verdict.{Verdict}
+use Rattle.refusal.specs.declared.cause.Verdict.the-variants.{Accepted, Refused}
 use Rattle.line.proofs.CountLaws.{le-or-lt}
 use Rattle.refusal.specs.Header as header
 use Rattle.refusal.proofs.HeaderLaws.{both-accepted, accepted-false, refused-false, neither, inside, inside-not, line-sound, line-accepts, length-exact, number-accepts, bit-accepts, length-accepts}
 use Rattle.state.specs.declared.Station.{Station}
 use Rattle.state.specs.Judgement.{foreign-state, is-done, state-verdict, station-verdict, telling-verdict, taking-verdict, opening-verdict, Sound, Ready}
+
+-- the first three verdicts joined beforehand
+pub joined : (a b c d : Verdict) {p q r : Verdict} → p ≡ (a or-else b or-else c) → q ≡ d → r ≡ (p or-else q) → r ≡ (a or-else b or-else c or-else d)
+joined a b c d e f g = g ∙ rw (e, f) (go a b c)
+  where
+    go : (a b c : Verdict) → ((a or-else b or-else c) or-else d) ≡ (a or-else b or-else c or-else d)
+    go Accepted Accepted c = refl
+    go Accepted (Refused x) c = refl
+    go (Refused x) b c = refl
 
 pub sound : (s : Station) → station-verdict s ≡ Accepted → Sound s
 unfolding station-verdict station-number state-verdict foreign-state

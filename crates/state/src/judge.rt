@@ -2,6 +2,8 @@
 ghost use mathlib.Core.Path.{_≡_};
 ghost use Prim.Native.Nat.{_+_};
 ghost use Rattle.line.specs.Line.{rounds};
+ghost use Rattle.refusal.specs.Cause.{_or-else_};
+ghost use Rattle.refusal.specs.Header.{line-verdict, station-number};
 ghost use Rattle.state.specs.Judgement.{foreign-state, is-done, state-verdict, station-verdict, telling-verdict, taking-verdict, opening-verdict};
 use crate::Station;
 use line::Line;
@@ -52,20 +54,23 @@ fn state(s: Station) -> Verdict
     )
 }
 
+// Causes 2, 3 and 4 of a station's numbers.
+fn numbers(n: u8, t: u8, upper: u8, sender: u8, own: u8) -> Verdict
+    ensures { λ r. ⌜ r ≡ line-verdict n t upper or-else station-number n sender or-else station-number n own ⌝ }
+{
+    let a = header::line_verdict(Line { n, t, upper });
+    let b = header::station_number(n, sender);
+    let c = header::station_number(n, own);
+    a.or_else(b.or_else(c))
+}
+
 // Causes 2, 3, 4 and 7 of a station's content.
 pub fn station(s: Station) -> Verdict
     ensures { λ r. ⌜ r ≡ station-verdict s ⌝ }
 {
-    let line = Line {
-        n: s.n,
-        t: s.t,
-        upper: s.upper,
-    };
-    let a = header::line_verdict(line);
-    let b = header::station_number(s.n, s.sender);
-    let c = header::station_number(s.n, s.own);
-    let d = state(s);
-    a.or_else(b.or_else(c.or_else(d)))
+    let a = numbers(s.n, s.t, s.upper, s.sender, s.own);
+    let b = state(s);
+    a.or_else(b)
 }
 
 // .. and 7 where a ballot is wanted of a done station.
@@ -90,9 +95,7 @@ pub fn taking(s: Station, row_len: usize) -> Verdict
 pub fn opening(n: u8, t: u8, upper: u8, sender: u8, own: u8, value: u8) -> Verdict
     ensures { λ r. ⌜ r ≡ opening-verdict n t upper sender own value ⌝ }
 {
-    let a = header::line_verdict(Line { n, t, upper });
-    let b = header::station_number(n, sender);
-    let c = header::station_number(n, own);
-    let d = header::bit(value);
-    a.or_else(b.or_else(c.or_else(d)))
+    let a = numbers(n, t, upper, sender, own);
+    let b = header::bit(value);
+    a.or_else(b)
 }

@@ -1,17 +1,13 @@
 -- `judge::station` meets its contract.
 use borrow.Author.Needs.{needs}
-use Rattle.state.specs.Judgement.{station-verdict}
+use Rattle.refusal.specs.Header.{line-verdict, station-number}
+use Rattle.state.specs.Judgement.{station-verdict, state-verdict}
+use Rattle.state.proofs.SoundLaws.{joined}
 use Rattle.state.proofs.judge.station.Statement.{statement}
 use Rattle.state.proofs.judge.station.Tie as tie
 
-line-verdict-requires : tie.Need-line-verdict-requires
-line-verdict-requires c κs = search needs
-
-station-number-requires : tie.Need-station-number-requires
-station-number-requires c κs = search needs
-
-station-number-requires-2 : tie.Need-station-number-requires-2
-station-number-requires-2 c κs = search needs
+numbers-requires : tie.Need-numbers-requires
+numbers-requires c κs = search needs
 
 state-requires : tie.Need-state-requires
 state-requires c κs = search needs
@@ -19,25 +15,12 @@ state-requires c κs = search needs
 or-else-requires : tie.Need-or-else-requires
 or-else-requires c κs = search needs
 
-or-else-requires-2 : tie.Need-or-else-requires-2
-or-else-requires-2 c κs = search needs
-
-or-else-requires-3 : tie.Need-or-else-requires-3
-or-else-requires-3 c κs = search needs
-
 returns : tie.Need-returns
 unfolding station-verdict
-returns c = cc
+returns c =
+    let s = c .before .before .before .args .s in
+    joined (line-verdict (s .n) (s .t) (s .upper)) (station-number (s .n) (s .sender)) (station-number (s .n) (s .own)) (state-verdict s)
+    (c .before .before .numbers .ensures) (c .before .state .ensures) (c .or-else .ensures .answer-is)
 
 pub station-spec : {M : Type 1} → statement M
-station-spec =
-    tie.close
-    (tie.spec
-    line-verdict-requires
-    station-number-requires
-    station-number-requires-2
-    state-requires
-    or-else-requires
-    or-else-requires-2
-    or-else-requires-3
-    returns)
+station-spec = tie.close (tie.spec numbers-requires state-requires or-else-requires returns)
