@@ -2,7 +2,7 @@
 ghost use mathlib.Core.Path.{_≡_};
 ghost use Prim.Native.Nat.{_+_};
 ghost use Rattle.line.specs.Line.{rounds};
-ghost use Rattle.refusal.specs.Cause.{_or-else_};
+ghost use Rattle.refusal.specs.Cause.{Judged, _or-else_};
 ghost use Rattle.refusal.specs.Header.{line-verdict, station-number};
 ghost use Rattle.state.specs.Judgement.{foreign-state, is-done, state-verdict, station-verdict, telling-verdict, taking-verdict, opening-verdict};
 use crate::Station;
@@ -66,7 +66,7 @@ fn numbers(n: u8, t: u8, upper: u8, sender: u8, own: u8) -> Verdict
 
 // Causes 2, 3, 4 and 7 of a station's content.
 pub fn station(s: Station) -> Verdict
-    ensures { λ r. ⌜ r ≡ station-verdict s ⌝ }
+    ensures { λ r. ⌜ Judged (station-verdict s) r ⌝ }
 {
     let a = numbers(s.n, s.t, s.upper, s.sender, s.own);
     let b = state(s);
@@ -75,7 +75,7 @@ pub fn station(s: Station) -> Verdict
 
 // .. and 7 where a ballot is wanted of a done station.
 pub fn telling(s: Station) -> Verdict
-    ensures { λ r. ⌜ r ≡ telling-verdict s ⌝ }
+    ensures { λ r. ⌜ Judged (telling-verdict s) r ⌝ }
 {
     let a = station(s);
     let b = Verdict::refused_if(is_done(s.t, s.round), Cause::StationState);
@@ -84,7 +84,7 @@ pub fn telling(s: Station) -> Verdict
 
 // .. and 8 for a row of another length than n.
 pub fn taking(s: Station, row_len: usize) -> Verdict
-    ensures { λ r. ⌜ r ≡ taking-verdict s «row_len» ⌝ }
+    ensures { λ r. ⌜ Judged (taking-verdict s «row_len») r ⌝ }
 {
     let a = telling(s);
     let b = header::exact_length(s.n as usize, row_len);
@@ -93,7 +93,7 @@ pub fn taking(s: Station, row_len: usize) -> Verdict
 
 // Causes 2, 3, 4 and 5 of what a station is opened with.
 pub fn opening(n: u8, t: u8, upper: u8, sender: u8, own: u8, value: u8) -> Verdict
-    ensures { λ r. ⌜ r ≡ opening-verdict n t upper sender own value ⌝ }
+    ensures { λ r. ⌜ Judged (opening-verdict n t upper sender own value) r ⌝ }
 {
     let a = numbers(n, t, upper, sender, own);
     let b = header::bit(value);

@@ -13,16 +13,16 @@ enum-told : tie.Need-enum-told
 enum-told c = search needs
 
 take-requires : tie.Need-take-requires
-take-requires c κs = ready _ _ (sym (c .before .before .taking .ensures) ∙ c .enum-told .given .1)
+take-requires c κs = ready _ _ (sym (c .before .before .taking .ensures .answer-is) ∙ c .enum-told .given .1)
 
 enum-known-verdict : tie.Need-enum-known-verdict
 enum-known-verdict c = search needs
 
 returns : tie.Need-returns
-returns c = advances _ _ _ (rw (← c .before .before .before .taking .ensures, c .before .enum-told .given .1, c .take .ensures))
+returns c = advances _ _ _ (rw (← c .before .before .before .taking .ensures .answer-is, c .before .enum-told .given .1, c .take .ensures))
 
 returns-2 : tie.Need-returns-2
-returns-2 c = advances _ _ _ (rw (← c .before .before .before .taking .ensures, c .before .verdict .given .1))
+returns-2 c = advances _ _ _ (rw (← c .before .before .before .taking .ensures .answer-is, c .before .verdict .given .1))
 
 pub advance-spec : {M : Type 1} → statement M
 advance-spec =

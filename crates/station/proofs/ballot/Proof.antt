@@ -13,16 +13,16 @@ enum-told : tie.Need-enum-told
 enum-told c = search needs
 
 tell-requires : tie.Need-tell-requires
-tell-requires c κs = telling-sound _ (sym (c .before .before .telling .ensures) ∙ c .enum-told .given .1) .0
+tell-requires c κs = telling-sound _ (sym (c .before .before .telling .ensures .answer-is) ∙ c .enum-told .given .1) .0
 
 enum-known-verdict : tie.Need-enum-known-verdict
 enum-known-verdict c = search needs
 
 returns : tie.Need-returns
-returns c = tells _ _ (rw (← c .before .before .before .telling .ensures, c .before .enum-told .given .1, c .tell .ensures))
+returns c = tells _ _ (rw (← c .before .before .before .telling .ensures .answer-is, c .before .enum-told .given .1, c .tell .ensures))
 
 returns-2 : tie.Need-returns-2
-returns-2 c = tells _ _ (rw (← c .before .before .before .telling .ensures, c .before .verdict .given .1))
+returns-2 c = tells _ _ (rw (← c .before .before .before .telling .ensures .answer-is, c .before .verdict .given .1))
 
 pub ballot-spec : {M : Type 1} → statement M
 ballot-spec =

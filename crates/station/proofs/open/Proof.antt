@@ -17,10 +17,10 @@ enum-known-verdict : tie.Need-enum-known-verdict
 enum-known-verdict c = search needs
 
 returns : tie.Need-returns
-returns c = opens _ _ _ _ _ _ _ (rw (← c .before .before .before .opening .ensures, c .before .enum-told .given .1, c .opened .ensures))
+returns c = opens _ _ _ _ _ _ _ (rw (← c .before .before .before .opening .ensures .answer-is, c .before .enum-told .given .1, c .opened .ensures))
 
 returns-2 : tie.Need-returns-2
-returns-2 c = opens _ _ _ _ _ _ _ (rw (← c .before .before .before .opening .ensures, c .before .verdict .given .1))
+returns-2 c = opens _ _ _ _ _ _ _ (rw (← c .before .before .before .opening .ensures .answer-is, c .before .verdict .given .1))
 
 pub open-spec : {M : Type 1} → statement M
 open-spec =

@@ -17,10 +17,10 @@ enum-known-verdict : tie.Need-enum-known-verdict
 enum-known-verdict c = search needs
 
 returns : tie.Need-returns
-returns c = results _ _ (rw (← c .before .before .before .station .ensures, c .before .enum-told .given .1, c .result .ensures))
+returns c = results _ _ (rw (← c .before .before .before .station .ensures .answer-is, c .before .enum-told .given .1, c .result .ensures))
 
 returns-2 : tie.Need-returns-2
-returns-2 c = results _ _ (rw (← c .before .before .before .station .ensures, c .before .verdict .given .1))
+returns-2 c = results _ _ (rw (← c .before .before .before .station .ensures .answer-is, c .before .verdict .given .1))
 
 pub result-spec : {M : Type 1} → statement M
 result-spec =

@@ -1,6 +1,7 @@
 -- `judge::opening` meets its contract.
 use borrow.Author.Needs.{needs}
 use Rattle.refusal.specs.Header.{line-verdict, station-number, bit}
+use Rattle.refusal.proofs.HeaderLaws.{judged}
 use Rattle.state.specs.Judgement.{opening-verdict}
 use Rattle.state.proofs.SoundLaws.{joined}
 use Rattle.state.proofs.judge.opening.Statement.{statement}
@@ -19,8 +20,8 @@ returns : tie.Need-returns
 unfolding opening-verdict
 returns c =
     let g = c .before .before .before .args in
-    joined (line-verdict (g .n) (g .t) (g .upper)) (station-number (g .n) (g .sender)) (station-number (g .n) (g .own)) (bit (g .value))
-    (c .before .before .numbers .ensures) (c .before .bit .ensures .answer-is) (c .or-else .ensures .answer-is)
+    judged (joined (line-verdict (g .n) (g .t) (g .upper)) (station-number (g .n) (g .sender)) (station-number (g .n) (g .own)) (bit (g .value))
+    (c .before .before .numbers .ensures) (c .before .bit .ensures .answer-is) (c .or-else .ensures .answer-is))
 
 pub opening-spec : {M : Type 1} → statement M
 opening-spec = tie.close (tie.spec numbers-requires bit-requires or-else-requires returns)

@@ -1,6 +1,7 @@
 -- `judge::station` meets its contract.
 use borrow.Author.Needs.{needs}
 use Rattle.refusal.specs.Header.{line-verdict, station-number}
+use Rattle.refusal.proofs.HeaderLaws.{judged}
 use Rattle.state.specs.Judgement.{station-verdict, state-verdict}
 use Rattle.state.proofs.SoundLaws.{joined}
 use Rattle.state.proofs.judge.station.Statement.{statement}
@@ -19,8 +20,8 @@ returns : tie.Need-returns
 unfolding station-verdict
 returns c =
     let s = c .before .before .before .args .s in
-    joined (line-verdict (s .n) (s .t) (s .upper)) (station-number (s .n) (s .sender)) (station-number (s .n) (s .own)) (state-verdict s)
-    (c .before .before .numbers .ensures) (c .before .state .ensures) (c .or-else .ensures .answer-is)
+    judged (joined (line-verdict (s .n) (s .t) (s .upper)) (station-number (s .n) (s .sender)) (station-number (s .n) (s .own)) (state-verdict s)
+    (c .before .before .numbers .ensures) (c .before .state .ensures) (c .or-else .ensures .answer-is))
 
 pub station-spec : {M : Type 1} → statement M
 station-spec = tie.close (tie.spec numbers-requires state-requires or-else-requires returns)

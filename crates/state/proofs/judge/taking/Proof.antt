@@ -1,5 +1,6 @@
 -- `judge::taking` meets its contract.
 use borrow.Author.Needs.{needs}
+use Rattle.refusal.proofs.HeaderLaws.{judged}
 use Rattle.state.specs.Judgement.{taking-verdict}
 use Rattle.state.proofs.judge.taking.Statement.{statement}
 use Rattle.state.proofs.judge.taking.Tie as tie
@@ -18,7 +19,7 @@ or-else-requires c κs = search needs
 
 returns : tie.Need-returns
 unfolding taking-verdict
-returns c = cc
+returns c = judged (cc)
 
 pub taking-spec : {M : Type 1} → statement M
 taking-spec =

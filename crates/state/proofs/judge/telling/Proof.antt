@@ -1,5 +1,6 @@
 -- `judge::telling` meets its contract.
 use borrow.Author.Needs.{needs}
+use Rattle.refusal.proofs.HeaderLaws.{judged}
 use Rattle.state.specs.Judgement.{telling-verdict}
 use Rattle.state.proofs.judge.telling.Statement.{statement}
 use Rattle.state.proofs.judge.telling.Tie as tie
@@ -18,7 +19,7 @@ or-else-requires c κs = search needs
 
 returns : tie.Need-returns
 unfolding telling-verdict
-returns c = cc
+returns c = judged (cc)
 
 pub telling-spec : {M : Type 1} → statement M
 telling-spec =
