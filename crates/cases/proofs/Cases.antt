@@ -6,7 +6,7 @@ use Rattle.line.specs.Marks.{marked, mark-beyond}
 use Rattle.line.specs.Ballot.{bit-or, read-sender, read-first, read-second, read-king}
 use Rattle.refusal.specs.Cause.{refused-if}
 use Rattle.refusal.specs.Header.{outside, station-count, exceeded, thresholds, station-number, bit, marks-within, exact-length, line-verdict, header-verdict}
-use Rattle.broadcast.specs.Exchange.{tally, firsts, seconds, z-of, y-of, grade-of, flag-of, sends, first-row, z, second-row, y, grade}
+use Rattle.broadcast.specs.Exchange.{tally, firsts, seconds, z-from, z-of, y-from, y-of, grade-of, flag-of, sends, first-row, z, second-row, y, grade}
 use Rattle.broadcast.specs.Broadcast.{phases, first-round, obey, x-after, y-after, grade-after, value-of, final-grade, final-flag}
 use Rattle.broadcast.specs.Station.{at}
 use Rattle.broadcast.specs.Bytes.{tabulate, setting, outcome-byte, outcome-bytes, outcomes}
@@ -26,7 +26,7 @@ _then_ : {A B : Type 0} → A → B → A × B
 a then b = (a, b)
 
 both-hold : All cases × All further
-unfolding count place marked bit-or read-sender read-first read-second read-king refused-if outside station-count exceeded thresholds station-number bit mark-beyond marks-within exact-length line-verdict header-verdict tally firsts seconds z-of y-of grade-of flag-of sends first-row z second-row y grade phases first-round obey x-after y-after grade-after value-of final-grade final-flag at tabulate setting outcome-byte outcome-bytes outcomes byte two four header spare first records start round from to ballot next rest is-record after reached ill-formed sheet-form line-and-length verdict-to-8 misplaced record-form unmarked-sender same-place taken-before duplicate record-verdict records-verdict sheet-verdict place-of filled kind walk fate station-line station-lines verdict lines decimal
+unfolding count place marked bit-or read-sender read-first read-second read-king refused-if outside station-count exceeded thresholds station-number bit mark-beyond marks-within exact-length line-verdict header-verdict tally firsts seconds z-from z-of y-from y-of grade-of flag-of sends first-row z second-row y grade phases first-round obey x-after y-after grade-after value-of final-grade final-flag at tabulate setting outcome-byte outcome-bytes outcomes byte two four header spare first records start round from to ballot next rest is-record after reached ill-formed sheet-form line-and-length verdict-to-8 misplaced record-form unmarked-sender same-place taken-before duplicate record-verdict records-verdict sheet-verdict place-of filled kind walk fate station-line station-lines verdict lines decimal
 both-hold = (
   (fate _, refl)
       then (fate _, refl)
