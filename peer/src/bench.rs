@@ -4,6 +4,7 @@
 
 use std::hint::black_box;
 
+use crate::exchange::alone;
 use crate::ffi::{self, Handed, ReadOnly};
 use crate::line::{Header, Line, Marks};
 use crate::lot::Lot;
@@ -14,11 +15,18 @@ use crate::timing::{sample, time_in_turn, Nanoseconds, Sample};
 
 const SAMPLES: usize = 401;
 
-/// The largest line: n 32, t and T 10, its last stations bad, this many.
-fn largest(bad: u32) -> (Header, Line) {
-    let marks = Marks((u64::from(u32::MAX) << (32 - bad)) as u32);
-    let header = Header { n: 32, t: 10, upper: 10, sender: 1, value: 1, marks };
-    (header, header.judge().expect("the largest line"))
+/// A line of n with t and T as large as can be, its last stations bad, this many.
+fn line_of(n: u8, bad: u8) -> (Header, Line) {
+    let first = u32::from(n - bad);
+    let marks = Marks((((1u64 << n) - 1) >> first << first) as u32);
+    let t = (n - 1) / 3;
+    let header = Header { n, t, upper: t, sender: 1, value: 1, marks };
+    (header, header.judge().expect("a line"))
+}
+
+/// The largest line: n 32, t and T 10.
+fn largest(bad: u8) -> (Header, Line) {
+    line_of(32, bad)
 }
 
 /// Copying as many bytes.
@@ -34,9 +42,9 @@ fn line(name: &str, [verified, peer, floor]: [Nanoseconds; 3]) -> String {
     format!("{name:<36}{times}{:>15.2}{:>16.2}{:>12.2}", ratios[0], ratios[1], ratios[2])
 }
 
-/// A rehearsal of the largest line. The floor is copying the log.
-fn rehearsal(bad: u32) -> [Nanoseconds; 3] {
-    let (header, line) = largest(bad);
+/// A rehearsal. The floor is copying the log.
+fn rehearsal(n: u8, bad: u8) -> [Nanoseconds; 3] {
+    let (header, line) = line_of(n, bad);
     let table = Lot(1).table(&line);
     let mut handed = table.clone();
     let mut logs = [0, 1, 2].map(|_| vec![0; line.table_len()]);
@@ -54,6 +62,33 @@ fn rehearsal(bad: u32) -> [Nanoseconds; 3] {
         ],
     );
     assert!(logs[0] == logs[1] && outcomes[0] == outcomes[1], "the rehearsals differ");
+    timed
+}
+
+/// An exchange had alone, of the largest line. The floor is copying its table.
+fn exchanged(bad: u8) -> [Nanoseconds; 3] {
+    let (header, line) = largest(bad);
+    let numbers = (header.n, header.t, header.upper);
+    let table = Lot(1).ballots(&line, 2 * line.round_len());
+    let inputs: Vec<u8> = (0..header.n).map(|i| i % 2).collect();
+    let (mut handed, mut handed_inputs, mut copied) = (table.clone(), inputs.clone(), table.clone());
+    let mut outcomes = [0, 1].map(|_| vec![0; line.outcomes_len()]);
+    let [out, own_out] = &mut outcomes;
+    let timed = time_in_turn(
+        SAMPLES,
+        [
+            sample(|| {
+                let inputs = ReadOnly(Handed::all(black_box(&mut handed_inputs)));
+                let table = ReadOnly(Handed::all(black_box(&mut handed)));
+                ffi::exchange(black_box(numbers), header.marks.0, inputs, table, Handed::all(out))
+            }),
+            sample(|| {
+                alone(black_box(numbers), header.marks, black_box(&inputs), black_box(&table), own_out)
+            }),
+            copy(&table, &mut copied),
+        ],
+    );
+    assert!(outcomes[0] == outcomes[1], "the exchanges differ");
     timed
 }
 
@@ -111,8 +146,13 @@ pub fn report(say: &mut impl FnMut(String)) {
     let times = format!("{:>11}{:>11}{:>11}", "verified", "peer", "copying");
     let ratios = format!("{:>15}{:>16}{:>12}", "verified/peer", "verified/copy", "peer/copy");
     say(format!("{:<36}{times}{ratios}", "median nanoseconds, and their ratios"));
+    for (n, some) in [(32, 10), (31, 10), (24, 7), (16, 5), (7, 2)] {
+        for bad in [0, some, n] {
+            say(line(&format!("rehearsal, n {n}, t {}, {bad} marked", (n - 1) / 3), rehearsal(n, bad)));
+        }
+    }
     for bad in [0, 10, 32] {
-        say(line(&format!("rehearsal, n 32, t 10, {bad} marked"), rehearsal(bad)));
+        say(line(&format!("exchange, n 32, t 10, {bad} marked"), exchanged(bad)));
     }
     for count in [RECORDS, 0] {
         say(line(&format!("reader, n 32, t 10, {count} records"), reader(count)));
