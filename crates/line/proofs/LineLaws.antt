@@ -27,6 +27,12 @@ next-row i n = rw (add-one, suc-mul)
 pub row-within : (i n m : ℕ) → i < m → i * n + n ≤ m * n
 row-within i n m h = rw suc-mul at (mul-le-mul-right n h)
 
+-- the rows from i to before r end within m of them
+pub rows-between : (i r n m : ℕ) → i < r → r ≤ m → i * n + (r - i) * n ≤ m * n
+rows-between i r n m h k =
+    let e : i + (r - i) ≡ r = omega arith in
+    rw (← add-mul i (r - i) n, e) (mul-le-mul-right n k)
+
 -- ---- the largest table
 
 -- no accepted line has a longer table

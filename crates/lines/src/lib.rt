@@ -6,9 +6,9 @@ ghost use Rattle.refusal.specs.declared.cause.Verdict.the-variants.{Accepted};
 ghost use Rattle.text.specs.Laid.{Puts};
 ghost use Rattle.lines.specs.Lines.{num, dash, refused, first-line, station-line, station-lines, lines-by};
 ghost use Rattle.lines.specs.Text.{line-text, text};
+use layout::Header;
 use line::Line;
 use line::marks;
-use layout::Header;
 
 // The first line of a listing.
 fn first_line(out: &mut [u8], header: Header) -> usize

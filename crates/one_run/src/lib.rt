@@ -1,7 +1,7 @@
 // One of the stored runs: a sheet is read and rehearsed, and the line of it printed to standard output. tests/runs.py says what the line has.
 ghost use Rattle.one_run.specs.Promise.{Leaves};
-use line::Line;
 use layout::Header;
+use line::Line;
 use sheet::Reading;
 
 mod show;

@@ -1,6 +1,6 @@
 // What is printed of a run.
-use libc::STDOUT_FILENO;
 use layout::Header;
+use libc::STDOUT_FILENO;
 
 // A number, and a space before it.
 fn number(n: u64) {

@@ -1,10 +1,11 @@
 -- Laws of a round's ballots in the log. Assumes nothing.
-use Prim.Native.Nat.{ℕ, zero, suc, _+_, _*_, _/_, _≤_, _<_}
+use Prim.Native.Nat.{ℕ, zero, suc, _+_, _-_, _*_, _/_, _%_, _≤_, _<_}
 use mathlib.Core.Path.{_≡_, refl, sym, ap, _∙_}
 use mathlib.Core.Bool.{Bool, true, false, _&&_}
 use mathlib.Core.List.{List}
 use native.Mathlib.Omega.{arith}
-use native.Mathlib.Nat.{zero-mul, div-lt-iff-lt-mul}
+use mathlib.Core.Logic.{_⊎_, inl, inr}
+use native.Mathlib.Nat.{zero-mul, mul-zero, add-mul, div-lt-iff-lt-mul, div-add-mod', mod-lt, eq-or-lt-of-le}
 use lib.Arith.{digits-div, digits-lt}
 use lib.ListN.{length, getD}
 use Rattle.line.specs.Count.{if_then_else_}
@@ -13,29 +14,68 @@ use Rattle.line.specs.Marks.{marked}
 use Rattle.line.specs.Writing.{over}
 use Rattle.line.proofs.LineLaws.{next-row, row-within, round-means}
 use Rattle.line.proofs.WritingLaws.{over-on, over-same, over-at, over-before, over-length}
-use Rattle.post.specs.Posted.{ballot-at, posted, same, from-table, either}
+use Rattle.line.proofs.CountLaws.{if-true, if-false}
+use Rattle.post.specs.Posted.{ballot-at, posted, same, from-table, Alike}
 
--- ---- a bad station's bytes and a good station's
+-- ---- good stations that say the same
 
-pub either-table : (bad : Bool) (table : List ℕ) (a b : ℕ) → bad ≡ true → (k : ℕ) → from-table table a k ≡ either bad table a b k
-unfolding from-table either
-either-table bad table a b e k = rw e
+module _ (said : List ℕ) (marks i : ℕ) where
+  pub alike-none : Alike said marks i (i + 1)
+  unfolding Alike
+  alike-none k a b = absurd (omega arith)
 
-pub either-same : (bad : Bool) (table : List ℕ) (a b : ℕ) → bad ≡ false → (k : ℕ) → same b k ≡ either bad table a b k
-unfolding same either
-either-same bad table a b e k = rw e
+  pub alike-more : (k : ℕ) → Alike said marks i k → marked marks k ≡ false → getD said k 0 ≡ getD said i 0 → Alike said marks i (k + 1)
+  unfolding Alike
+  alike-more k before good same m a b = go (eq-or-lt-of-le (let h : m ≤ k = omega arith in h))
+    where
+      go : (m ≡ k) ⊎ (m < k) → (marked marks m ≡ false) × (getD said m 0 ≡ getD said i 0)
+      go (inl e) = rw e (good, same)
+      go (inr l) = before m a l
+
+-- ---- the ballots
 
 module _ (said table : List ℕ) (marks start n : ℕ) where
   -- sender m's byte to j
-  ballot-from : (m j : ℕ) → j < n → either (marked marks m) table (start + m * n) (getD said m 0) j ≡ ballot-at said table marks start n (m * n + j)
-  unfolding either ballot-at
+  ballot-from : (m j : ℕ) → j < n
+      → ballot-at said table marks start n (m * n + j) ≡ (if marked marks m then getD table (start + m * n + j) 0 else getD said m 0)
+  unfolding ballot-at
   ballot-from m j h = let e : start + m * n + j ≡ start + (m * n + j) = omega arith in rw (digits-div m h, e)
 
-  -- one sender more
-  pub posted-turn : (m : ℕ) (l l′ l″ : List ℕ) → l′ ≡ over l start (m * n) (ballot-at said table marks start n)
-      → l″ ≡ over l′ (start + m * n) n (either (marked marks m) table (start + m * n) (getD said m 0))
-      → l″ ≡ over l start ((m + 1) * n) (ballot-at said table marks start n)
-  posted-turn m l l′ l″ e q = rw (next-row m n, q, e) (over-on l start (m * n) _ _ n (λ j h. ballot-from m j h))
+  -- one bad sender more
+  pub bad-turn : (m : ℕ) (l l′ l″ : List ℕ) → marked marks m ≡ true → l′ ≡ over l start (m * n) (ballot-at said table marks start n)
+      → l″ ≡ over l′ (start + m * n) n (from-table table (start + m * n)) → l″ ≡ over l start ((m + 1) * n) (ballot-at said table marks start n)
+  unfolding from-table
+  bad-turn m l l′ l″ bad e q =
+      rw (next-row m n, q, e) (over-on l start (m * n) _ _ n (λ j h. sym (ballot-from m j h ∙ if-true _ _ bad)))
+
+  -- the good senders from m to before r more, who say the same
+  module _ (m r : ℕ) (h : m < r) (good : marked marks m ≡ false) (alike : Alike said marks m r) where
+    same-byte : (k : ℕ) → m ≤ k → k < r → (marked marks k ≡ false) × (getD said k 0 ≡ getD said m 0)
+    unfolding Alike
+    same-byte k a b = go (eq-or-lt-of-le a)
+      where
+        go : (m ≡ k) ⊎ (m < k) → (marked marks k ≡ false) × (getD said k 0 ≡ getD said m 0)
+        go (inl e) = rw (sym e) (good, refl)
+        go (inr l) = alike k l b
+
+    run-byte : (j : ℕ) → j < (r - m) * n → getD said m 0 ≡ ballot-at said table marks start n (m * n + j)
+    run-byte j l =
+        let pos : 0 < n = positive n (r - m) j l in
+        let q : j / n < r - m = div-lt-iff-lt-mul pos .1 l in
+        let d : (m + j / n) * n + j % n ≡ m * n + j = omega (arith, add-mul m (j / n) n, div-add-mod' j n) in
+        let (g, s) = same-byte (m + j / n) (omega arith) (omega arith) in
+        sym (ap (ballot-at said table marks start n) (sym d) ∙ ballot-from (m + j / n) (j % n) (mod-lt j pos) ∙ if-false _ _ g ∙ s)
+      where
+        positive : (n k j : ℕ) → j < k * n → 0 < n
+        positive zero k j b = absurd (omega (arith, mul-zero k))
+        positive (suc n) k j b = omega arith
+
+    pub run-turn : (l l′ l″ : List ℕ) → l′ ≡ over l start (m * n) (ballot-at said table marks start n)
+        → l″ ≡ over l′ (start + m * n) ((r - m) * n) (same (getD said m 0)) → l″ ≡ over l start (r * n) (ballot-at said table marks start n)
+    unfolding same
+    run-turn l l′ l″ e q =
+        let d : m * n + (r - m) * n ≡ r * n = rw (← add-mul m (r - m) n) (ap (λ (k : ℕ). k * n) (let s : m + (r - m) ≡ r = omega arith in s)) in
+        rw (← d, q, e) (over-on l start (m * n) _ _ ((r - m) * n) run-byte)
 
   -- ---- a whole round
 
@@ -78,11 +118,10 @@ module _ (said table : List ℕ) (marks start n : ℕ) where
       pub posted-at : (i j : ℕ) → i < n → j < n
           → getD (posted n marks said table log start) (start + i * n + j) 0
           ≡ (if marked marks i then getD table (start + i * n + j) 0 else getD said i 0)
-      unfolding either
       posted-at i j hi hj =
           let e : start + (i * n + j) ≡ start + i * n + j = omega arith in
           let k : i * n + j < n * n = digits-lt hi hj in
-          rw posted-is ((rw e at (over-at log start (ballot-at said table marks start n) (n * n) (i * n + j) k (round-means n start (length log) a .1))) ∙ sym (ballot-from i j hj))
+          rw posted-is ((rw e at (over-at log start (ballot-at said table marks start n) (n * n) (i * n + j) k (round-means n start (length log) a .1))) ∙ ballot-from i j hj)
 
 -- who says the same posts the same
 pub posted-as : (n marks : ℕ) (said said′ table log : List ℕ) (start : ℕ) → ((i : ℕ) → i < n → getD said i 0 ≡ getD said′ i 0)

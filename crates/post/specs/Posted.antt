@@ -1,6 +1,7 @@
 -- A round's ballots in the log (document 01, "The broadcast": "The rehearsal writes a log, laid out like the table."). Stations are counted from 0.
-use Prim.Native.Nat.{ℕ, _+_, _*_, _/_}
-use mathlib.Core.Bool.{Bool, _&&_}
+use Prim.Native.Nat.{ℕ, _+_, _*_, _/_, _<_}
+use mathlib.Core.Path.{_≡_}
+use mathlib.Core.Bool.{false, _&&_}
 use mathlib.Core.List.{List}
 use lib.ListN.{length, getD}
 use Rattle.line.specs.Count.{if_then_else_}
@@ -20,7 +21,7 @@ posted n marks said table log start =
     then over log start (n * n) (ballot-at said table marks start n)
     else log
 
--- ---- for private functions: one sender's bytes, from the place a on
+-- ---- for private functions: a sender's bytes, from the place a on
 
 unfoldable pub same : ℕ → ℕ → ℕ
 same b k = b
@@ -28,5 +29,6 @@ same b k = b
 unfoldable pub from-table : List ℕ → ℕ → ℕ → ℕ
 from-table table a k = getD table (a + k) 0
 
-unfoldable pub either : Bool → List ℕ → ℕ → ℕ → ℕ → ℕ
-either bad table a b k = if bad then getD table (a + k) 0 else b
+-- from station i to before station r: good ones that say what i says
+unfoldable pub Alike : List ℕ → ℕ → ℕ → ℕ → Type 0
+Alike said marks i r = (k : ℕ) → i < k → k < r → (marked marks k ≡ false) × (getD said k 0 ≡ getD said i 0)
