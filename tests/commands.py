@@ -274,7 +274,7 @@ def building(folder):
     os.utime(copy.top / "crates" / "line" / "src" / "lib.rt")
     again = copy.agree()
     yield "a program older than its crates is built again", again.out == b"built\n" and "is older than its sources: " in again.said and len(copy.called()) == 2
-    (copy.top / "crates" / "sheet" / "specs" / "Chain.antt").unlink()
+    (copy.top / "crates" / "layout" / "specs" / "Chain.antt").unlink()
     yield "also where a file is gone", copy.agree().out == b"built\n" and len(copy.called()) == 3
     yield "nothing temporary is left", copy.left() == []
     copy = Copy(folder / "shown", "told")

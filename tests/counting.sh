@@ -1,5 +1,7 @@
 # Counting tests under time limits: sourced by the gate, by its parts in bash, and by their own test.
 passed=0 failed=0 unrun=''
+# a part that runs beside others: its process group, its label, its limit, when it began, and what it printed
+beside_group='' beside_label='' beside_limit='' beside_began='' beside_out=''
 . "$(dirname "${BASH_SOURCE[0]}")/../commands/process_group.sh"
 
 # add P F: counts so many
@@ -44,7 +46,7 @@ limited() {
     shift 2
     timeout -k "$grace" "$limit" "$@" >"$out" 2>&1 &
     group=$!
-    trap 'end_group "$group"; rm -f "$out"; exit 143' INT TERM HUP
+    trap 'end_group "$group"; end_beside; rm -f "$out"; exit 143' INT TERM HUP
     tail -n +1 -s 0.1 -f --pid="$group" "$out" &
     shown=$!
     # without the shell's own word on a process that was killed
@@ -58,12 +60,49 @@ limited() {
 
 # counted SECONDS LABEL COMMAND..: runs a part under its time limit, and adds up the 'N passed, M failed' of its last line
 counted() {
-    local limit=$1 label=$2 began=$SECONDS before=($passed $failed) out status line
+    local limit=$1 label=$2 began=$SECONDS out
     shift 2
     out=$(mktemp) || { fail "$label: no temporary file"; return; }
     echo "== $label"
     limited "$limit" "$out" "$@"
+    tell_part $? "$label" "$limit" "$began" "$out"
+}
+
+# beside SECONDS LABEL COMMAND..: begins a part that runs beside those that follow, until `joined`
+beside() {
+    beside_limit=$1 beside_label=$2 beside_began=$SECONDS
+    shift 2
+    beside_out=$(mktemp) || { fail "$beside_label: no temporary file"; return; }
+    echo "== $beside_label begins, beside what follows"
+    timeout -k "$grace" "$beside_limit" "$@" >"$beside_out" 2>&1 &
+    beside_group=$!
+}
+
+# joined: waits for the part that runs beside others, shows what it printed and counts it
+joined() {
+    local status
+    [ -n "$beside_group" ] || return
+    trap 'end_beside; exit 143' INT TERM HUP
+    wait "$beside_group" 2>/dev/null
     status=$?
+    end_group "$beside_group"
+    trap - INT TERM HUP
+    beside_group=''
+    echo "== $beside_label"
+    cat "$beside_out"
+    tell_part "$status" "$beside_label" "$beside_limit" "$beside_began" "$beside_out"
+}
+
+# end_beside: ends the part that runs beside others, where there is one
+end_beside() {
+    [ -n "$beside_group" ] || return 0
+    end_group "$beside_group"
+    rm -f "$beside_out"
+}
+
+# tell_part STATUS LABEL LIMIT BEGAN FILE: counts a part that has ended, by what it printed, and says how long it took
+tell_part() {
+    local status=$1 label=$2 limit=$3 began=$4 out=$5 before=($passed $failed) line
     if { [ "$status" -eq 124 ] || [ "$status" -eq 137 ]; } && [ $((SECONDS - began)) -ge "$limit" ]; then
         fail "$label: ended at its time limit of $limit s"
     else
