@@ -5,7 +5,7 @@ use Rattle.line.specs.Line.{place}
 use Rattle.line.specs.Marks.{marked, mark-beyond}
 use Rattle.line.specs.Ballot.{bit-or, read-sender, read-first, read-second, read-king}
 use Rattle.refusal.specs.Cause.{refused-if}
-use Rattle.refusal.specs.Header.{outside, station-count, exceeded, thresholds, station-number, bit, marks-within, exact-length, line-verdict, header-verdict}
+use Rattle.header.specs.Header.{outside, station-count, exceeded, thresholds, station-number, bit, marks-within, exact-length, line-verdict, header-verdict}
 use Rattle.broadcast.specs.Exchange.{tally, firsts, seconds, z-from, z-of, y-from, y-of, grade-of, flag-of, sends, first-row, z, second-row, y, grade}
 use Rattle.broadcast.specs.Broadcast.{phases, first-round, obey, x-after, y-after, grade-after, value-of, final-grade, final-flag}
 use Rattle.broadcast.specs.Station.{at}

@@ -15,10 +15,11 @@ use Rattle.line.specs.Writing.{over, Each}
 use Rattle.line.proofs.CountLaws.{none-passes, count-zero, count-hit, count-miss, count-le}
 use Rattle.line.proofs.LineLaws.{place-from-start, round-there}
 use Rattle.refusal.specs.Cause.{written}
-use Rattle.refusal.specs.Header.{marks-within}
+use Rattle.header.specs.Header.{marks-within}
 use Rattle.refusal.specs.declared.cause.Verdict.{Verdict}
 use Rattle.refusal.specs.declared.cause.Verdict.the-variants.{Accepted}
-use Rattle.refusal.proofs.HeaderLaws.{judged, accepted-false, both-accepted, line-sound, length-exact}
+use Rattle.refusal.proofs.VerdictLaws.{judged, accepted-false, both-accepted}
+use Rattle.header.proofs.HeaderLaws.{line-sound, length-exact}
 use Rattle.broadcast.specs.Exchange.{Setting, sends, first-row, second-row, y-of, flag-of, z, y, grade}
 use Rattle.broadcast.specs.Broadcast.{speaks}
 use Rattle.broadcast.specs.Station.{State, held, told, next, taken, at}

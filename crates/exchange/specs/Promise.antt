@@ -9,7 +9,7 @@ use Rattle.line.specs.Count.{count}
 use Rattle.line.specs.Line.{exchange-length, outcomes-length}
 use Rattle.line.specs.Marks.{marked}
 use Rattle.refusal.specs.Cause.{Judged, refused-if, _or-else_, written}
-use Rattle.refusal.specs.Header.{line-verdict, marks-within, exact-length}
+use Rattle.header.specs.Header.{line-verdict, marks-within, exact-length}
 use Rattle.refusal.specs.declared.cause.Cause.the-variants.{Value}
 use Rattle.refusal.specs.declared.cause.Verdict.{Verdict}
 use Rattle.refusal.specs.declared.cause.Verdict.the-variants.{Accepted}

@@ -7,7 +7,7 @@ ghost use lib.ListN.{length};
 ghost use Rattle.line.specs.Line.{exchange-length, outcomes-length};
 ghost use Rattle.line.specs.Writing.{Each};
 ghost use Rattle.refusal.specs.Cause.{_or-else_};
-ghost use Rattle.refusal.specs.Header.{exact-length};
+ghost use Rattle.header.specs.Header.{exact-length};
 ghost use Rattle.broadcast.specs.Bytes.{exchange-outcomes};
 ghost use Rattle.broadcast.specs.Station.{at};
 ghost use Rattle.exchange.specs.Promise.{foreign-inputs, inputs-verdict, exchange-verdict, Exchanged};
@@ -16,7 +16,6 @@ use line::Line;
 use line::marks;
 use refusal::cause::Cause;
 use refusal::cause::Verdict;
-use refusal::header;
 use round::Stations;
 use step::Part;
 

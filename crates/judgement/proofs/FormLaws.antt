@@ -8,7 +8,7 @@ use lib.Dec.{ltb, eqb}
 use lib.ListN.{length}
 use borrow.Author.Tests.{eqb-true, eq-eqb, ltb-false, lt-ltb, le-ltb, not-false}
 use Rattle.refusal.specs.declared.cause.Verdict.the-variants.{Accepted}
-use Rattle.refusal.proofs.HeaderLaws.{refused-false, accepted-false, neither}
+use Rattle.refusal.proofs.VerdictLaws.{refused-false, accepted-false, neither}
 use Rattle.layout.specs.Layout.{spare, most-records, records}
 use Rattle.judgement.specs.Judgement.{ill-formed, sheet-form}
 use Rattle.judgement.specs.Theorems.{WellFormed}

@@ -8,9 +8,10 @@ use lib.Dec.{eqb}
 use borrow.Author.Tests.{eqb-true, eq-eqb, not-false}
 use Rattle.line.specs.Line.{rounds}
 use Rattle.refusal.specs.Cause.{_or-else_}
-use Rattle.refusal.specs.Header.{outside}
+use Rattle.header.specs.Header.{outside}
 use Rattle.refusal.specs.declared.cause.Verdict.the-variants.{Accepted}
-use Rattle.refusal.proofs.HeaderLaws.{inside, neither, accepted-false, both-accepted}
+use Rattle.refusal.proofs.VerdictLaws.{neither, accepted-false, both-accepted}
+use Rattle.header.proofs.HeaderLaws.{inside}
 use Rattle.layout.specs.Layout.{header, round, from, to}
 use Rattle.layout.specs.Chain.{Record}
 use Rattle.layout.specs.Numbers.{record-at}

@@ -8,7 +8,7 @@ use Rattle.line.specs.Count.{count}
 use Rattle.line.specs.Line.{from-0, rounds, table-length}
 use Rattle.line.specs.Marks.{marked}
 use Rattle.refusal.specs.Cause.{refused-if, _or-else_}
-use Rattle.refusal.specs.Header.{outside, header-verdict, exact-length}
+use Rattle.header.specs.Header.{outside, header-verdict, exact-length}
 use Rattle.refusal.specs.declared.cause.Cause.the-variants.{SheetForm, ChainLeaves, ChainRepeats, RecordForm, UnmarkedSender, Duplicate}
 use Rattle.refusal.specs.declared.cause.Verdict.{Verdict}
 use Rattle.refusal.specs.declared.cause.Verdict.the-variants.{Accepted, Refused}

@@ -5,7 +5,7 @@ use lib.Dec.{eqb}
 use Rattle.line.specs.Line.{from-0}
 use Rattle.line.specs.Marks.{marked}
 use Rattle.refusal.specs.Cause.{refused-if, _or-else_}
-use Rattle.refusal.specs.Header.{outside}
+use Rattle.header.specs.Header.{outside}
 use Rattle.refusal.specs.declared.cause.Cause.the-variants.{RecordForm, UnmarkedSender}
 use Rattle.refusal.specs.declared.cause.Verdict.{Verdict}
 use Rattle.layout.specs.declared.Record.{Record}

@@ -12,7 +12,6 @@ use line::Line;
 use line::marks;
 use refusal::cause::Cause;
 use refusal::cause::Verdict;
-use refusal::header;
 
 // Cause 1.
 fn ill_formed(sheet: &[u8]) -> bool

@@ -14,7 +14,7 @@ use Rattle.line.specs.Marks.{marked}
 use Rattle.refusal.specs.Cause.{number}
 use Rattle.refusal.specs.declared.cause.Verdict.{Verdict}
 use Rattle.refusal.specs.declared.cause.Verdict.the-variants.{Accepted, Refused}
-use Rattle.refusal.proofs.HeaderLaws.{both-accepted}
+use Rattle.refusal.proofs.VerdictLaws.{both-accepted}
 use Rattle.broadcast.specs.Exchange.{flag-of}
 use Rattle.broadcast.specs.Station.{at}
 use Rattle.broadcast.specs.Bytes.{outcomes}

@@ -8,11 +8,12 @@ use lib.ListN.{length, take, drop, take-append-drop}
 use lib.Seq.{length-take-le}
 use Rattle.line.specs.Line.{table-length, outcomes-length}
 use Rattle.refusal.specs.Cause.{number, _or-else_, written}
-use Rattle.refusal.specs.Header.{exact-length}
+use Rattle.header.specs.Header.{exact-length}
 use Rattle.refusal.specs.declared.cause.Cause.{Cause}
 use Rattle.refusal.specs.declared.cause.Verdict.{Verdict}
 use Rattle.refusal.specs.declared.cause.Verdict.the-variants as verdict
-use Rattle.refusal.proofs.HeaderLaws.{both-accepted, header-accepts, length-accepts}
+use Rattle.refusal.proofs.VerdictLaws.{both-accepted}
+use Rattle.header.proofs.HeaderLaws.{header-accepts, length-accepts}
 use Rattle.broadcast.specs.Bytes.{log}
 use Rattle.rehearsal.specs.Promise.{rehearsal-verdict, Rehearsed}
 use Rattle.layout.specs.declared.Header.{Header}

@@ -8,12 +8,12 @@ use lib.ListN.{length, drop}
 use lib.Seq.{take-append-seam}
 use Rattle.line.specs.Line.{largest-table}
 use Rattle.refusal.specs.Cause.{_or-else_}
-use Rattle.refusal.specs.Header.{header-verdict}
+use Rattle.header.specs.Header.{header-verdict}
 use Rattle.refusal.specs.declared.cause.Cause.{Cause}
 use Rattle.refusal.specs.declared.cause.Verdict.{Verdict}
 use Rattle.refusal.specs.declared.cause.Verdict.the-variants.{Accepted, Refused}
 use Rattle.line.proofs.LineLaws.{table-bound}
-use Rattle.refusal.proofs.HeaderLaws.{header-sound}
+use Rattle.header.proofs.HeaderLaws.{header-sound}
 use Rattle.layout.specs.Layout.{header}
 use Rattle.layout.specs.Chain.{Fate}
 use Rattle.judgement.specs.Judgement.{sheet-form, line-and-length, verdict-to-8, chain-verdict, sheet-verdict}

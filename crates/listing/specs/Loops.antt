@@ -5,7 +5,7 @@ use mathlib.Core.List.{List}
 use lib.ListN.{length}
 use Rattle.line.specs.Line.{table-length}
 use Rattle.refusal.specs.Cause.{written}
-use Rattle.refusal.specs.Header.{exact-length}
+use Rattle.header.specs.Header.{exact-length}
 use Rattle.broadcast.specs.Bytes.{log, outcomes}
 use Rattle.layout.specs.declared.Header.{Header}
 use Rattle.layout.specs.Layout.{header}

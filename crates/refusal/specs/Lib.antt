@@ -1,5 +1,2 @@
--- The causes of refusal, and the judgement of a header's numbers and of a length (document 01, "Refused causes"). Nothing is proved here; Theorems
--- says what proofs/ proves.
+-- The causes of refusal, by their numbers, and verdicts (document 01, "Refused causes").
 pub mod Cause
-pub mod Header
-pub mod Theorems

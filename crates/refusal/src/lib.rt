@@ -1,3 +1,2 @@
-// The causes of refusal and the verdicts made of them, and the judgement of a header's numbers and of a length.
+// The causes of refusal, and the verdicts made of them.
 pub mod cause;
-pub mod header;

@@ -2,7 +2,7 @@
 use mathlib.Core.Path.{refl}
 use Rattle.line.specs.Line.{from-0}
 use Rattle.line.specs.Marks.{marked}
-use Rattle.refusal.proofs.HeaderLaws.{header-sound}
+use Rattle.header.proofs.HeaderLaws.{header-sound}
 use Rattle.broadcast.proofs.BytesLaws.{same-two-threshold}
 use Rattle.broadcast.proofs.Theorems as theorems
 use Rattle.rehearsal.specs.Promise.{run-of}

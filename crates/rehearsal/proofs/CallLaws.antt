@@ -9,7 +9,7 @@ use lib.ListN.{length, getD}
 use lib.Seq.{ext-getD}
 use Rattle.line.specs.Line.{from-0, rounds, table-length, outcomes-length, place}
 use Rattle.line.specs.Marks.{marked}
-use Rattle.refusal.specs.Header.{Sound}
+use Rattle.header.specs.Header.{Sound}
 use Rattle.refusal.specs.declared.cause.Verdict.the-variants.{Accepted}
 use Rattle.broadcast.specs.Station.{Setup, ballot, Result, done, at, after}
 use Rattle.broadcast.specs.Bytes.{Run, log, outcomes, setup, column}

@@ -17,7 +17,7 @@ use Rattle.line.specs.Marks.{marked}
 use Rattle.line.specs.Writing.{over}
 use Rattle.line.proofs.CountLaws.{le-or-lt}
 use Rattle.line.proofs.LineLaws.{table-bound, place-from-start, row-within, round-there}
-use Rattle.refusal.specs.Header.{Sound}
+use Rattle.header.specs.Header.{Sound}
 use Rattle.broadcast.specs.Broadcast.{part, value-of, final-grade, final-flag}
 use Rattle.broadcast.specs.Station.{State, opened, ballot, advance, Result, done, at, after}
 use Rattle.broadcast.specs.Bytes.{setting, setting-of, Run, log, outcomes, setup, column}

@@ -6,7 +6,7 @@ use mathlib.Core.List.{List}
 use lib.ListN.{length, getD}
 use Rattle.line.specs.Line.{table-length}
 use Rattle.line.specs.Marks.{marked}
-use Rattle.refusal.specs.Header.{Sound}
+use Rattle.header.specs.Header.{Sound}
 use Rattle.broadcast.specs.Station.{after}
 use Rattle.broadcast.specs.Bytes.{Run, log, outcomes, setup, column}
 use Rattle.round.specs.declared.Stations.{Stations}

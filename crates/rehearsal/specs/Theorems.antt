@@ -7,7 +7,7 @@ use mathlib.Core.List.{List}
 use lib.ListN.{length}
 use Rattle.line.specs.Line.{from-0, table-length}
 use Rattle.line.specs.Marks.{marked, faults}
-use Rattle.refusal.specs.Header.{header-verdict}
+use Rattle.header.specs.Header.{header-verdict}
 use Rattle.refusal.specs.declared.cause.Verdict.the-variants.{Accepted}
 use Rattle.broadcast.specs.Bytes.{Run, log, outcomes}
 use Rattle.broadcast.specs.Guarantees.{Good, TwoThreshold}

@@ -7,7 +7,6 @@ ghost use lib.ListN.{length};
 ghost use Rattle.line.specs.Line.{rounds, outcomes-length};
 use line::Line;
 use refusal::cause::Verdict;
-use refusal::header;
 use round::Stations;
 
 // Causes 2 to 6 and 8, the lowest first.

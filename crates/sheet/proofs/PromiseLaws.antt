@@ -5,11 +5,12 @@ use mathlib.Core.List.{List}
 use lib.ListN.{length}
 use Rattle.line.specs.Line.{table-length}
 use Rattle.refusal.specs.Cause.{code, written, given}
-use Rattle.refusal.specs.Header.{header-verdict, exact-length}
+use Rattle.header.specs.Header.{header-verdict, exact-length}
 use Rattle.refusal.specs.declared.cause.Cause.{Cause}
 use Rattle.refusal.specs.declared.cause.Verdict.{Verdict}
 use Rattle.refusal.specs.declared.cause.Verdict.the-variants as verdict
-use Rattle.refusal.proofs.HeaderLaws.{both-accepted, header-sound, length-exact}
+use Rattle.refusal.proofs.VerdictLaws.{both-accepted}
+use Rattle.header.proofs.HeaderLaws.{header-sound, length-exact}
 use Rattle.layout.specs.declared.Header.{Header}
 use Rattle.sheet.specs.declared.Reading.{Reading}
 use Rattle.sheet.specs.declared.Reading.the-variants as reading

@@ -16,7 +16,7 @@ use Rattle.line.proofs.MarksLaws.{marked-above}
 use Rattle.refusal.specs.Cause.{refused-if, _or-else_}
 use Rattle.refusal.specs.declared.cause.Cause.the-variants.{RecordForm, Duplicate}
 use Rattle.refusal.specs.declared.cause.Verdict.the-variants.{Accepted}
-use Rattle.refusal.proofs.HeaderLaws.{refused-true, both-accepted}
+use Rattle.refusal.proofs.VerdictLaws.{refused-true, both-accepted}
 use Rattle.layout.specs.Layout.{header}
 use Rattle.layout.specs.Chain.{reached}
 use Rattle.layout.proofs.PigeonholeLaws.{same-or-not}

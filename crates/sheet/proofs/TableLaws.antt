@@ -17,7 +17,7 @@ use Rattle.refusal.specs.Cause.{_or-else_}
 use Rattle.refusal.specs.declared.cause.Verdict.the-variants.{Accepted}
 use Rattle.line.proofs.CountLaws.{none-passes}
 use Rattle.line.proofs.LineLaws.{place-below, place-from}
-use Rattle.refusal.proofs.HeaderLaws.{never, accepted-false, both-accepted}
+use Rattle.refusal.proofs.VerdictLaws.{never, accepted-false, both-accepted}
 use Rattle.layout.specs.Layout.{header, from, ballot}
 use Rattle.layout.specs.Chain.{Record, reached, Ends, Fate, leaves, again, ends}
 use Rattle.judgement.specs.Judgement.{misplaced, record-form, unmarked-sender, same-place, taken-before, duplicate, record-verdict, records-verdict, verdict-to-8, chain-verdict, sheet-verdict}

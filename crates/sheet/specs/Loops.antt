@@ -11,7 +11,7 @@ use Rattle.line.specs.Line.{from-0, rounds, place}
 use Rattle.line.specs.Marks.{marked}
 use Rattle.line.specs.Ballot.{silence}
 use Rattle.refusal.specs.Cause.{refused-if, _or-else_}
-use Rattle.refusal.specs.Header.{Sound}
+use Rattle.header.specs.Header.{Sound}
 use Rattle.refusal.specs.declared.cause.Cause.{Cause}
 use Rattle.refusal.specs.declared.cause.Cause.the-variants.{ChainLeaves, ChainRepeats, Duplicate}
 use Rattle.refusal.specs.declared.cause.Verdict.{Verdict}

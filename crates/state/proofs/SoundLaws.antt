@@ -7,13 +7,14 @@ use native.Mathlib.Omega.{arith}
 use lib.ListN.{length}
 use borrow.Author.Tests.{ltb-false, eqb-false, le-ltb, ne-eqb}
 use Rattle.line.specs.Line.{rounds}
-use Rattle.refusal.specs.Header.{station-number}
+use Rattle.header.specs.Header.{station-number}
 use Rattle.refusal.specs.Cause.{_or-else_}
 use Rattle.refusal.specs.declared.cause.Verdict.{Verdict}
 use Rattle.refusal.specs.declared.cause.Verdict.the-variants.{Accepted, Refused}
 use Rattle.line.proofs.CountLaws.{le-or-lt}
-use Rattle.refusal.specs.Header as header
-use Rattle.refusal.proofs.HeaderLaws.{both-accepted, accepted-false, refused-false, neither, inside, inside-not, line-sound, line-accepts, length-exact, number-accepts, bit-accepts, length-accepts}
+use Rattle.header.specs.Header as header
+use Rattle.refusal.proofs.VerdictLaws.{both-accepted, accepted-false, refused-false, neither}
+use Rattle.header.proofs.HeaderLaws.{inside, inside-not, line-sound, line-accepts, length-exact, number-accepts, bit-accepts, length-accepts}
 use Rattle.state.specs.declared.Station.{Station}
 use Rattle.state.specs.Judgement.{foreign-state, is-done, state-verdict, station-verdict, telling-verdict, taking-verdict, opening-verdict, Sound, Ready}
 

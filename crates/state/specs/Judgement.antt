@@ -7,7 +7,7 @@ use lib.Dec.{ltb, eqb}
 use lib.ListN.{length}
 use Rattle.line.specs.Line.{Fits, rounds}
 use Rattle.refusal.specs.Cause.{refused-if, _or-else_}
-use Rattle.refusal.specs.Header.{outside, line-verdict, station-number, bit, exact-length}
+use Rattle.header.specs.Header.{outside, line-verdict, station-number, bit, exact-length}
 use Rattle.refusal.specs.declared.cause.Cause.the-variants.{StationState}
 use Rattle.refusal.specs.declared.cause.Verdict.{Verdict}
 use Rattle.state.specs.declared.Station.{Station}

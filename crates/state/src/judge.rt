@@ -3,13 +3,12 @@ ghost use mathlib.Core.Path.{_≡_};
 ghost use Prim.Native.Nat.{_+_};
 ghost use Rattle.line.specs.Line.{rounds};
 ghost use Rattle.refusal.specs.Cause.{Judged, _or-else_};
-ghost use Rattle.refusal.specs.Header.{line-verdict, station-number};
+ghost use Rattle.header.specs.Header.{line-verdict, station-number};
 ghost use Rattle.state.specs.Judgement.{foreign-state, is-done, state-verdict, station-verdict, telling-verdict, taking-verdict, opening-verdict};
 use crate::Station;
 use line::Line;
 use refusal::cause::Cause;
 use refusal::cause::Verdict;
-use refusal::header;
 
 // R + 1, the round of a done station.
 fn last_round(t: u8) -> usize

@@ -6,11 +6,12 @@ use native.Mathlib.Omega.{arith}
 use lib.ListN.{length}
 use borrow.Author.Tests.{eq-eqb, ltb-false}
 use Rattle.line.specs.Line.{rounds, Fits}
-use Rattle.refusal.specs.Header.{station-number, bit}
+use Rattle.header.specs.Header.{station-number, bit}
 use Rattle.refusal.specs.declared.cause.Cause.the-variants.{StationState}
 use Rattle.refusal.specs.declared.cause.Verdict.{Verdict}
 use Rattle.refusal.specs.declared.cause.Verdict.the-variants.{Accepted, Refused}
-use Rattle.refusal.proofs.HeaderLaws.{both-accepted, accepted-false, refused-true, inside, line-sound}
+use Rattle.refusal.proofs.VerdictLaws.{both-accepted, accepted-false, refused-true}
+use Rattle.header.proofs.HeaderLaws.{inside, line-sound}
 use Rattle.broadcast.specs.Station.{advance, result, at, after}
 use Rattle.broadcast.proofs.RoundLaws.{after-range, after-round, done-after}
 use Rattle.state.specs.declared.Station.{Station}

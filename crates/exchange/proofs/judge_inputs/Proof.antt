@@ -3,7 +3,7 @@ use borrow.Author.Needs.{needs}
 use mathlib.Core.Path.{sym, _∙_}
 use borrow.Author.Tests.{eq-eqb, ne-eqb}
 use lib.ListN.{length}
-use Rattle.refusal.proofs.HeaderLaws.{refused-false}
+use Rattle.refusal.proofs.VerdictLaws.{refused-false}
 use Rattle.exchange.specs.Promise.{inputs-verdict}
 use Rattle.exchange.proofs.judge_inputs.Statement.{statement}
 use Rattle.exchange.proofs.judge_inputs.Tie as tie

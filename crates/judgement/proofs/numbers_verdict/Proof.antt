@@ -1,7 +1,7 @@
 use borrow.Author.Needs.{needs}
 use mathlib.Core.Path.{sym, _∙_}
 use Rattle.refusal.specs.declared.cause.Cause.the-variants.{RecordForm}
-use Rattle.refusal.proofs.HeaderLaws.{judged, refused-true, refused-false}
+use Rattle.refusal.proofs.VerdictLaws.{judged, refused-true, refused-false}
 use Rattle.judgement.specs.Numbers.{numbers-verdict}
 use Rattle.judgement.proofs.RangeLaws.{numbers-in-range}
 use Rattle.judgement.proofs.numbers_verdict.Statement.{statement}

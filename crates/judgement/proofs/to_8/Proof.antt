@@ -1,7 +1,7 @@
 -- `to_8` meets its contract: cause 1 comes first.
 use borrow.Author.Needs.{needs}
 use mathlib.Core.Path.{sym, _∙_}
-use Rattle.refusal.proofs.HeaderLaws.{judged, refused-true, refused-false}
+use Rattle.refusal.proofs.VerdictLaws.{judged, refused-true, refused-false}
 use Rattle.refusal.specs.declared.cause.Cause.the-variants.{SheetForm}
 use Rattle.judgement.specs.Judgement.{verdict-to-8, sheet-form}
 use Rattle.judgement.proofs.to_8.Statement.{statement}

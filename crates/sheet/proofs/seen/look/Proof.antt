@@ -6,7 +6,7 @@ use mathlib.Core.Path.{refl, sym, _∙_}
 use Prim.Native.Nat.{_%_}
 use native.Mathlib.Nat.{one-mul}
 use lib.Pow.{shl-exact}
-use Rattle.refusal.proofs.HeaderLaws.{refused-true, refused-false}
+use Rattle.refusal.proofs.VerdictLaws.{refused-true, refused-false}
 use Rattle.sheet.specs.Loops.{looked, is-seen, with-place}
 use Rattle.sheet.proofs.seen.look.Statement.{statement}
 use Rattle.sheet.proofs.seen.look.Tie as tie

@@ -2,7 +2,7 @@
 use borrow.Author.Needs.{needs}
 use native.Mathlib.Omega.{arith}
 use mathlib.Core.Path.{refl, sym, _∙_}
-use Rattle.refusal.proofs.HeaderLaws.{never}
+use Rattle.refusal.proofs.VerdictLaws.{never}
 use Rattle.judgement.proofs.RangeLaws.{accepted-in-range}
 use Rattle.sheet.specs.Loops.{record-by, place-by}
 use Rattle.sheet.proofs.WalkLaws.{place-most}

@@ -4,7 +4,7 @@ use Prim.Native.Nat.{_+_}
 use native.Mathlib.Omega.{arith}
 use borrow.Author.Tests.{lt-ltb, le-ltb}
 use Rattle.line.specs.Line.{rounds}
-use Rattle.refusal.specs.Header.{outside}
+use Rattle.header.specs.Header.{outside}
 use Rattle.state.specs.Judgement.{foreign-state}
 use Rattle.state.proofs.judge.foreign_state.Statement.{statement}
 use Rattle.state.proofs.judge.foreign_state.Tie as tie

@@ -1,7 +1,7 @@
 -- `judge::opening` meets its contract.
 use borrow.Author.Needs.{needs}
-use Rattle.refusal.specs.Header.{line-verdict, station-number, bit}
-use Rattle.refusal.proofs.HeaderLaws.{judged}
+use Rattle.header.specs.Header.{line-verdict, station-number, bit}
+use Rattle.refusal.proofs.VerdictLaws.{judged}
 use Rattle.state.specs.Judgement.{opening-verdict}
 use Rattle.state.proofs.SoundLaws.{joined}
 use Rattle.state.proofs.judge.opening.Statement.{statement}

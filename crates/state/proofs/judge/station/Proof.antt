@@ -1,7 +1,7 @@
 -- `judge::station` meets its contract.
 use borrow.Author.Needs.{needs}
-use Rattle.refusal.specs.Header.{line-verdict, station-number}
-use Rattle.refusal.proofs.HeaderLaws.{judged}
+use Rattle.header.specs.Header.{line-verdict, station-number}
+use Rattle.refusal.proofs.VerdictLaws.{judged}
 use Rattle.state.specs.Judgement.{station-verdict, state-verdict}
 use Rattle.state.proofs.SoundLaws.{joined}
 use Rattle.state.proofs.judge.station.Statement.{statement}

@@ -1,6 +1,6 @@
 -- `judge::taking` meets its contract.
 use borrow.Author.Needs.{needs}
-use Rattle.refusal.proofs.HeaderLaws.{judged}
+use Rattle.refusal.proofs.VerdictLaws.{judged}
 use Rattle.state.specs.Judgement.{taking-verdict}
 use Rattle.state.proofs.judge.taking.Statement.{statement}
 use Rattle.state.proofs.judge.taking.Tie as tie

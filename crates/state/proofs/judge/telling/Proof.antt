@@ -1,6 +1,6 @@
 -- `judge::telling` meets its contract.
 use borrow.Author.Needs.{needs}
-use Rattle.refusal.proofs.HeaderLaws.{judged}
+use Rattle.refusal.proofs.VerdictLaws.{judged}
 use Rattle.state.specs.Judgement.{telling-verdict}
 use Rattle.state.proofs.judge.telling.Statement.{statement}
 use Rattle.state.proofs.judge.telling.Tie as tie

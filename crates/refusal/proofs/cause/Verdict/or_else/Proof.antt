@@ -1,6 +1,6 @@
 -- `Verdict::or_else` meets its contract, case by case.
 use borrow.Author.Needs.{needs}
-use Rattle.refusal.proofs.HeaderLaws.{judged}
+use Rattle.refusal.proofs.VerdictLaws.{judged}
 use Rattle.refusal.proofs.cause.Verdict.or_else.Statement.{statement}
 use Rattle.refusal.proofs.cause.Verdict.or_else.Tie as tie
 

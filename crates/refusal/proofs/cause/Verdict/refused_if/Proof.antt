@@ -1,6 +1,6 @@
 -- `Verdict::refused_if` meets its contract, by the test at each arm.
 use mathlib.Core.Path.{sym}
-use Rattle.refusal.proofs.HeaderLaws.{judged, refused-true, refused-false}
+use Rattle.refusal.proofs.VerdictLaws.{judged, refused-true, refused-false}
 use Rattle.refusal.proofs.cause.Verdict.refused_if.Statement.{statement}
 use Rattle.refusal.proofs.cause.Verdict.refused_if.Tie as tie
 

@@ -1,0 +1,116 @@
+-- Laws of the judgement: nothing is refused exactly if every number is as document 01 wants it. Assumes nothing.
+use Prim.Native.Nat.{ℕ, _+_, _*_, _≤_}
+use mathlib.Core.Path.{_≡_, refl, ap}
+use mathlib.Core.Bool.{Bool, true, false, _||_}
+use native.Mathlib.Omega.{arith}
+use lib.Dec.{leb, ltb, eqb}
+use borrow.Author.Tests.{leb-false, ltb-false, le-ltb, lt-leb, eqb-true, eq-eqb, not-false}
+use Rattle.line.specs.Line.{Fits, most-stations}
+use Rattle.line.specs.Marks.{marked, mark-beyond}
+use Rattle.refusal.specs.Cause.{code, Judged, refused-if, _or-else_}
+use Rattle.header.specs.Header.{outside, exceeded, station-count, thresholds, station-number, bit, marks-within, exact-length, line-verdict, header-verdict, Sound}
+use Rattle.refusal.specs.declared.cause.Cause.{Cause}
+use Rattle.refusal.specs.declared.cause.Verdict.{Verdict}
+use Rattle.refusal.specs.declared.cause.Verdict.the-variants.{Accepted, Refused}
+use Rattle.line.proofs.MarksLaws.{beyond-none, beyond-some}
+use Rattle.refusal.proofs.VerdictLaws.{refused-true, refused-false, never, accepted-false, both-accepted, neither}
+
+-- ---- the tests
+
+pub inside : (low high x : ℕ) → outside low high x ≡ false → (low ≤ x) × (x ≤ high)
+unfolding outside
+inside low high x e =
+    let (a, b) = neither (ltb x low) (ltb high x) e in (ltb-false x low a, ltb-false high x b)
+
+pub inside-not : (low high x : ℕ) → low ≤ x → x ≤ high → outside low high x ≡ false
+unfolding outside
+inside-not low high x a b = rw (le-ltb x low a, le-ltb high x b)
+
+pub fitting : (n t T : ℕ) → exceeded n t T ≡ false → Fits n t T
+unfolding exceeded
+fitting n t T e =
+    let (a, b) = neither (ltb T t) (leb n (t + 2 * T)) e in
+    record { order = ltb-false T t a; room = leb-false n (t + 2 * T) b }
+
+pub fitting-not : (n t T : ℕ) → Fits n t T → exceeded n t T ≡ false
+unfolding exceeded
+fitting-not n t T f = rw (le-ltb T t (f .order), lt-leb n (t + 2 * T) (f .room))
+
+-- a length that is not refused is the one wanted
+pub length-exact : (wanted found : ℕ) → exact-length wanted found ≡ Accepted → found ≡ wanted
+unfolding exact-length
+length-exact wanted found e = eqb-true found wanted (not-false (eqb found wanted) (accepted-false _ _ e))
+
+within-not : (n marks : ℕ) → ((i : ℕ) → n ≤ i → marked marks i ≡ false) → mark-beyond n marks ≡ false
+within-not n marks h = go (mark-beyond n marks) refl
+  where
+    go : (b : Bool) → mark-beyond n marks ≡ b → b ≡ false
+    go false e = refl
+    go true e = let (i, l, m) = beyond-some n marks e in let g : marked marks i ≡ false = h i l in cc
+
+-- ---- each verdict, where its number is as it should be
+
+count-accepts : (n : ℕ) → 1 ≤ n → n ≤ most-stations → station-count n ≡ Accepted
+unfolding station-count
+count-accepts n a b = refused-false _ (inside-not 1 most-stations n a b)
+
+thresholds-accept : (n t T : ℕ) → Fits n t T → thresholds n t T ≡ Accepted
+unfolding thresholds
+thresholds-accept n t T f = refused-false _ (fitting-not n t T f)
+
+pub number-accepts : (n i : ℕ) → 1 ≤ i → i ≤ n → station-number n i ≡ Accepted
+unfolding station-number
+number-accepts n i a b = refused-false _ (inside-not 1 n i a b)
+
+pub bit-accepts : (v : ℕ) → v ≤ 1 → bit v ≡ Accepted
+unfolding bit
+bit-accepts v h = refused-false _ (le-ltb 1 v h)
+
+marks-accept : (n marks : ℕ) → ((i : ℕ) → n ≤ i → marked marks i ≡ false) → marks-within n marks ≡ Accepted
+unfolding marks-within
+marks-accept n marks h = refused-false _ (within-not n marks h)
+
+pub length-accepts : (wanted found : ℕ) → found ≡ wanted → exact-length wanted found ≡ Accepted
+unfolding exact-length
+length-accepts wanted found e = refused-false _ (rw (eq-eqb found wanted e))
+
+-- ---- causes 2 and 3
+
+pub line-sound : (n t T : ℕ) → line-verdict n t T ≡ Accepted → (1 ≤ n) × (n ≤ most-stations) × Fits n t T
+unfolding line-verdict station-count thresholds
+line-sound n t T e =
+    let (a, b) = both-accepted _ _ e in
+    let (some, most) = inside 1 most-stations n (accepted-false _ _ a) in (some, most, fitting n t T (accepted-false _ _ b))
+
+pub line-accepts : (n t T : ℕ) → n ≤ most-stations → Fits n t T → line-verdict n t T ≡ Accepted
+unfolding line-verdict
+line-accepts n t T h fits =
+    rw (count-accepts n (omega (arith, fits)) h, thresholds-accept n t T fits)
+
+-- ---- the whole header
+
+module _ (n t T sender value marks : ℕ) where
+  -- nothing is refused: every number is as it should be
+  pub header-sound : header-verdict n t T sender value marks ≡ Accepted → Sound n t T sender value marks
+  unfolding header-verdict station-number bit marks-within
+  header-sound e =
+      let (a, e₂) = both-accepted _ _ e in
+      let (c, e₃) = both-accepted _ _ e₂ in
+      let (d, m) = both-accepted _ _ e₃ in
+      let (some, most, fits) = line-sound n t T a in
+      let from = inside 1 n sender (accepted-false _ _ c) in
+      record {
+        some = some;
+        most = most;
+        fits = fits;
+        sender-low = from .0;
+        sender-high = from .1;
+        value-bit = ltb-false 1 value (accepted-false _ _ d);
+        within = λ i h. beyond-none n marks i (accepted-false _ _ m) h;
+      }
+
+  -- every number is as it should be: nothing is refused
+  pub header-accepts : Sound n t T sender value marks → header-verdict n t T sender value marks ≡ Accepted
+  unfolding header-verdict
+  header-accepts s =
+      rw (line-accepts n t T (s .most) (s .fits), number-accepts n sender (s .sender-low) (s .sender-high), bit-accepts value (s .value-bit), marks-accept n marks (s .within))
