@@ -22,7 +22,7 @@ pub record RehearsedNumber (R : Run) (log₀ log₁ outcomes₀ outcomes₁ : Li
   pub rehearsed : Rehearsed R log₀ log₁ outcomes₀ outcomes₁ answer
   pub number-is : r ≡ code answer
 
--- `vembopu_exchange`: what `exchange::alone::exchange` promises
+-- `vembopu_exchange`: what `exchange::exchange` promises
 pub record ExchangedNumber (n t T marks : ℕ) (inputs table outcomes₀ outcomes₁ : List ℕ) (r : ℕ) : Type 0 where
   pub answer : Verdict
   pub exchanged : Exchanged n t T marks inputs table outcomes₀ outcomes₁ answer

@@ -7,7 +7,7 @@ pub mod ballot;
 pub mod marks;
 
 // A line of n stations with the thresholds t and T (document 01, "Names"). T is called upper in code, where names by convention are lower case.
-// Any bytes at all may stand in it: refusal::header::line_verdict judges them.
+// Any bytes at all may stand in it: header::line_verdict judges them.
 pub struct Line {
     pub n: u8,
     pub t: u8,
