@@ -4,8 +4,6 @@ use layout::Header;
 use line::Line;
 use sheet::Reading;
 
-mod show;
-
 // The largest log, where a byte that is left as it was shows, being 7.
 fn sevens() -> [u8; 36864] {
     [7; 36864]
@@ -19,12 +17,12 @@ fn decide(h: Header, table: &[u8], log: &mut [u8], outcomes: &mut [u8]) {
         upper: h.upper,
     };
     let verdict = rehearsal::rehearse(line, h.sender, h.value, h.marks, table, log, outcomes);
-    show::rehearsal(verdict.code(), log, outcomes);
+    print_run::rehearsal(verdict.code(), log, outcomes);
 }
 
 // Lends a log of the table's length and the outcomes of n stations.
 fn accepted(h: Header, table: &[u8], lent: u16) {
-    show::header(h, table);
+    print_run::header(h, table);
     let mut log = sevens();
     let a = io::count(lent as isize, &log);
     let mut outcomes = sevens();
@@ -36,10 +34,10 @@ fn accepted(h: Header, table: &[u8], lent: u16) {
 pub fn run(k: u64, sheet: &[u8], lent: u16, table: &mut [u8])
     ensures { λ r. ⌜ Leaves (now (sheet .entry)) (now (table .entry)) (now (table .exit)) ⌝ }
 {
-    show::name(k);
+    print_run::name(k);
     let reading = sheet::read(sheet, table);
     match reading {
         Reading::Accepted(h) => accepted(h, table, lent),
-        Reading::Refused(c) => show::refusal(c.number(), table),
+        Reading::Refused(c) => print_run::refusal(c.number(), table),
     }
 }

@@ -1,9 +1,9 @@
--- `show::bytes` is safe and ends.
+-- `bytes` is safe and ends.
 use borrow.Author.Needs.{needs}
 use Prim.Native.Nat.{_-_, _≤_}
 use lib.ListN.{length}
-use Rattle.one_run.proofs.show.bytes.Statement.{statement}
-use Rattle.one_run.proofs.show.bytes.Tie as tie
+use Rattle.print_run.proofs.bytes.Statement.{statement}
+use Rattle.print_run.proofs.bytes.Tie as tie
 
 abbrev Inv-loop : tie.InvT-loop
 Inv-loop list i₀ i = i ≤ length list

@@ -1,9 +1,9 @@
--- `show::checksum` is safe and ends.
+-- `checksum` is safe and ends.
 use borrow.Author.Needs.{needs}
 use Prim.Native.Nat.{_-_, _≤_}
 use lib.ListN.{length}
-use Rattle.one_run.proofs.show.checksum.Statement.{statement}
-use Rattle.one_run.proofs.show.checksum.Tie as tie
+use Rattle.print_run.proofs.checksum.Statement.{statement}
+use Rattle.print_run.proofs.checksum.Tie as tie
 
 abbrev Inv-loop : tie.InvT-loop
 Inv-loop list sum₀ i₀ sum i = i ≤ length list
