@@ -1,4 +1,4 @@
-// The causes of refusal, each with its number in document 01.
+// The causes of refusal, each with its number in documents 01 and 02.
 ghost use mathlib.Core.Path.{_≡_};
 ghost use Rattle.refusal.specs.Cause.{number, code, Judged, refused-if, _or-else_};
 
@@ -16,6 +16,7 @@ pub enum Cause {
     RecordForm,
     UnmarkedSender,
     Duplicate,
+    TooManyRecords,
 }
 
 // What judging gives: nothing against it, or a cause.
@@ -25,7 +26,7 @@ pub enum Verdict {
 }
 
 impl Cause {
-    // Document 01's number.
+    // Its number in the documents.
     pub fn number(self) -> u8
         ensures { λ r. ⌜ r ≡ number self ⌝ }
     {
@@ -43,6 +44,7 @@ impl Cause {
             Cause::RecordForm => 11,
             Cause::UnmarkedSender => 12,
             Cause::Duplicate => 13,
+            Cause::TooManyRecords => 14,
         }
     }
 }
