@@ -1,0 +1,84 @@
+-- Laws of counting what is to be written: byte by byte, row by row, round by round. Assumes nothing.
+use Prim.Native.Nat.{ℕ, zero, suc, _+_, _-_, _*_, _≤_, _<_}
+use mathlib.Core.Path.{_≡_, refl, sym, _∙_}
+use mathlib.Core.Bool.{Bool, true, false, not, _&&_}
+use mathlib.Core.List.{List}
+use native.Mathlib.Nat.{add-zero, add-suc, add-assoc, add-mul, zero-mul, mul-le-mul-right}
+use native.Mathlib.Numerals.{add-one}
+use native.Mathlib.Omega.{arith}
+use lib.Dec.{eqb}
+use lib.ListN.{length, getD}
+use Rattle.line.specs.Count.{if_then_else_, count}
+use Rattle.line.specs.Marks.{marked}
+use Rattle.line.specs.Line.{place}
+use Rattle.line.specs.Ballot.{silence}
+use Rattle.line.proofs.CountLaws.{count-same, count-none}
+use Rattle.line.proofs.LineLaws.{next-row, row-within, place-from-start, place-from}
+use Rattle.writer.specs.Places.{from-at, to-write}
+use Rattle.writer.specs.Loops.{Row, Round, spoken, speaks, More}
+
+-- ---- counting on from a place
+
+pub count-on : (a m : ℕ) (q : ℕ → Bool) → count (a + m) q ≡ count a q + count m (λ j. q (a + j))
+unfolding count
+count-on a zero q = rw (add-zero a) (omega arith)
+count-on a (suc m) q = rw (add-suc a m, count-on a m q) (omega arith)
+
+-- one byte more
+pub spoken-turn : (table : List ℕ) (at j : ℕ) → count (j + 1) (speaks table at) ≡ count j (speaks table at) + spoken (getD table (at + j) 0)
+unfolding count speaks spoken
+spoken-turn table at j = rw add-one (go (eqb (getD table (at + j) 0) silence))
+  where
+    go : (b : Bool) → (if not b then 1 else 0) + count j (speaks table at) ≡ count j (speaks table at) + (if b then 0 else 1)
+    go true = omega arith
+    go false = omega arith
+
+-- ---- a row
+
+module _ (n marks : ℕ) (table : List ℕ) (i at : ℕ) (row : Row n i at) where
+  -- a marked sender's bytes are written where they are not silence
+  pub marked-speaks : (j : ℕ) → marked marks i ≡ true → j < n → to-write n marks table (at + j) ≡ speaks table at j
+  unfolding to-write speaks
+  marked-speaks j e l = rw (row j l, e)
+
+  -- another's are not
+  pub unmarked-not : (j : ℕ) → marked marks i ≡ false → j < n → to-write n marks table (at + j) ≡ false
+  unfolding to-write
+  unmarked-not j e l = rw (row j l, e)
+
+  pub row-marked : (m : ℕ) → marked marks i ≡ true → m ≤ n → More (to-write n marks table) at (at + m) (count m (speaks table at))
+  row-marked m e l =
+      rw (count-on at m (to-write n marks table), count-same m (λ j. to-write n marks table (at + j)) (speaks table at) (λ j k. marked-speaks j e (omega arith)))
+
+  pub row-unmarked : (m : ℕ) → marked marks i ≡ false → m ≤ n → More (to-write n marks table) at (at + m) 0
+  row-unmarked m e l =
+      rw (count-on at m (to-write n marks table), count-same m (λ j. to-write n marks table (at + j)) (λ j. false) (λ j k. unmarked-not j e (omega arith)), count-none)
+
+-- ---- rows and rounds, one after the other
+
+pub more-none : (q : ℕ → Bool) (at n : ℕ) → More q at (at + 0 * n) 0
+more-none q at n = rw (zero-mul, add-zero at) (omega arith)
+
+-- a row more
+pub more-row : (q : ℕ → Bool) (at i n k r : ℕ) → More q at (at + i * n) k → More q (at + i * n) (at + i * n + n) r → More q at (at + (i + 1) * n) (k + r)
+more-row q at i n k r a b =
+    let e : at + (i + 1) * n ≡ at + i * n + n = omega (arith, next-row i n) in
+    rw e (omega (arith, a, b))
+
+-- the rounds' places
+pub round-rows : (n r : ℕ) → Round n (r * n * n)
+unfolding from-at
+round-rows n r i h j l =
+    let z : r + 1 - 1 ≡ r = omega arith in
+    let p : place n (r + 1) i j ≡ r * n * n + i * n + j = place-from-start n (r + 1) i j ∙ rw z (sym (add-assoc (r * n * n) (i * n) j)) in
+    rw p at (place-from n (r + 1) i j (omega arith) h l)
+
+pub next-round : (n r : ℕ) → (r + 1) * n * n ≡ r * n * n + n * n
+next-round n r = rw (next-row r n, add-mul)
+
+pub no-rounds : (n : ℕ) → 0 * n * n ≡ 0
+no-rounds n = rw (zero-mul n, zero-mul n)
+
+-- a round ends within the table
+pub round-within : (n r last : ℕ) → r < last → r * n * n + n * n ≤ last * n * n
+round-within n r last h = rw (← next-round n r) (mul-le-mul-right n (mul-le-mul-right n (let g : r + 1 ≤ last = omega arith in g)))

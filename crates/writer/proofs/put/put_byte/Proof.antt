@@ -1,0 +1,59 @@
+-- `put::put_byte` meets its contract: silence is not written.
+use borrow.Author.Needs.{needs}
+use native.Mathlib.Omega.{arith}
+use Prim.Native.Nat.{_+_}
+use mathlib.Core.Path.{_≡_, _∙_}
+use Rattle.writer.proofs.PutLaws.{spoken-none, spoken-one, put-none, put-one}
+use Rattle.writer.proofs.put.put_byte.Statement.{statement}
+use Rattle.writer.proofs.put.put_byte.Tie as tie
+
+returns : tie.Need-returns
+returns c =
+    let a = c .before .before .args in
+    let e = c .if1 .taken in
+    (omega (arith, spoken-none (a .ballot) e), put-none (a .ballot) (a .sheet .now) (a .k) (a .m) (a .round) (a .from) (a .to) e)
+
+add-next-index : tie.Need-add-next-index
+add-next-index c = search needs
+
+next-index-requires : tie.Need-next-index-requires
+next-index-requires c κs = search needs
+
+mul-put-record : tie.Need-mul-put-record
+mul-put-record c = search needs
+
+add-put-record : tie.Need-add-put-record
+add-put-record c = search needs
+
+put-record-requires : tie.Need-put-record-requires
+put-record-requires c κs =
+    let s = c .before .before .before .before in
+    omega (arith, s .pre .1, s .pre .2, spoken-one (s .args .ballot) (c .before .before .if1 .left))
+
+add-result : tie.Need-add-result
+add-result c = search needs
+
+same-length : tie.Need-same-length
+same-length c = search needs
+
+returns-2 : tie.Need-returns-2
+returns-2 c =
+    let s = c .before .before .before .before .before .before .before in
+    let a = s .args in
+    let e = c .before .before .before .before .before .if1 .left in
+    let w = put-one (a .ballot) (a .sheet .now) (a .k) (a .m) (a .round) (a .from) (a .to) e in
+    (omega (arith, spoken-one (a .ballot) e), c .before .before .put-record .ensures ∙ rw (c .before .before .before .before .next-index .ensures) w)
+
+pub put-byte-spec : {M : Type 1} → statement M
+put-byte-spec =
+    tie.close
+    (tie.spec
+    returns
+    add-next-index
+    next-index-requires
+    mul-put-record
+    add-put-record
+    put-record-requires
+    add-result
+    same-length
+    returns-2)

@@ -1,0 +1,93 @@
+-- What the private functions of the writer do: for their contracts, and no part of what the public calls promise.
+use Prim.Native.Nat.{ℕ, _+_, _*_, _≤_, _<_}
+use mathlib.Core.Path.{_≡_}
+use mathlib.Core.Bool.{Bool, not}
+use mathlib.Core.List.{List, [], _∷_}
+use lib.Dec.{eqb}
+use lib.ListN.{length, getD}
+use Rattle.line.specs.Count.{if_then_else_, count}
+use Rattle.line.specs.Line.{from-0, rounds, table-length, place}
+use Rattle.line.specs.Ballot.{silence}
+use Rattle.text.specs.Laid.{laid}
+use Rattle.layout.specs.declared.Header.{Header}
+use Rattle.layout.specs.Layout.{header}
+use Rattle.writer.specs.Places.{from-at, to-write, how-many}
+use Rattle.writer.specs.Sheet.{low, high, next-index, records-bytes, sheet}
+
+-- ---- the table's parts
+
+-- the n places from `at` on have station i, counted from 0, as their sender
+abbrev pub Row : (n i at : ℕ) → Type 0
+Row n i at = (j : ℕ) → j < n → from-at n (at + j) ≡ i
+
+-- the n·n places from `at` on are a round's
+abbrev pub Round : (n at : ℕ) → Type 0
+Round n at = (i : ℕ) → i < n → Row n i (at + i * n)
+
+-- a table of so many rounds
+pub record Whole (n last : ℕ) (table : List ℕ) : Type 0 where
+  pub some : 1 ≤ n
+  pub few : n ≤ 32
+  pub short : last ≤ 36
+  pub whole : length table ≡ last * n * n
+
+-- ---- counting
+
+-- 1 where the byte is not silence
+unfoldable pub spoken : ℕ → ℕ
+spoken b = if eqb b silence then 0 else 1
+
+-- whether the j-th byte from `at` on is not silence
+unfoldable pub speaks : List ℕ → ℕ → ℕ → Bool
+speaks table at j = not (eqb (getD table (at + j) 0) silence)
+
+-- so many places to be written come between two
+abbrev pub More : (q : ℕ → Bool) → (from to r : ℕ) → Type 0
+More q from to r = count to q ≡ count from q + r
+
+-- ---- writing
+
+-- the sheet with record m + 1 of k in it; as it was where the ballot is silence
+unfoldable pub put-at : List ℕ → (k m round from to ballot : ℕ) → List ℕ
+put-at sheet k m round from to ballot =
+    if eqb ballot silence then sheet
+    else laid sheet (12 + 8 * m) (round ∷ from ∷ to ∷ ballot ∷ low (next-index k (m + 1)) ∷ high (next-index k (m + 1)) ∷ 0 ∷ 0 ∷ [])
+
+-- Wherever records 1 to m₀ were laid after the twelve bytes, records 1 to m₁ are now.
+abbrev pub Goes-on : Header → List ℕ → (k : ℕ) → (sheet₀ : List ℕ) → (m₀ : ℕ) → (sheet₁ : List ℕ) → (m₁ : ℕ) → Type 0
+Goes-on h table k sheet₀ m₀ sheet₁ m₁ =
+    (s : List ℕ) → sheet₀ ≡ laid s 12 (records-bytes h table k m₀) → sheet₁ ≡ laid s 12 (records-bytes h table k m₁)
+
+-- k records are to be written from a table of the header's line into a sheet that has room for them; those before the place `at` are m
+pub record Ready (h : Header) (table sheet : List ℕ) (k at m : ℕ) : Type 0 where
+  pub some : 1 ≤ h .n
+  pub few : h .n ≤ 32
+  pub short : rounds (h .t) ≤ 36
+  pub whole : length table ≡ table-length (h .n) (h .t)
+  pub all : k ≡ how-many h table
+  pub most : k ≤ 4096
+  pub room : length sheet ≡ 12 + 8 * k
+  pub before : m ≡ count at (to-write (h .n) (h .marks) table)
+
+-- the start of a sender's bytes in a round; the sender is counted from 1
+pub record Of-sender (h : Header) (round from at : ℕ) : Type 0 where
+  pub at-is : at ≡ place (h .n) round (from-0 from) 0
+  pub round-low : 1 ≤ round
+  pub round-high : round ≤ rounds (h .t)
+  pub from-low : 1 ≤ from
+  pub from-high : from ≤ h .n
+
+-- the start of a round
+pub record Of-round (h : Header) (round at : ℕ) : Type 0 where
+  pub at-is : at ≡ place (h .n) round 0 0
+  pub round-low : 1 ≤ round
+  pub round-high : round ≤ rounds (h .t)
+
+-- `sheet` of Sheet.antt: a parameter has that name
+abbrev pub sheet-of : List ℕ → List ℕ → List ℕ
+sheet-of h table = sheet h table
+
+-- what no cause refuses, with k records
+pub record Unrefused (h table sheet : List ℕ) (k : ℕ) : Type 0 where
+  pub twelve : length h ≡ 12
+  pub ready : Ready (header h) table sheet k 0 0

@@ -1,0 +1,2 @@
+-- What is shown of the definitions.
+use Prim.Native.Nat.{ℕ}
