@@ -1,7 +1,4 @@
--- Theorems has the proof of each statement of specs/Theorems.antt; the others lead to it.
-pub mod RankLaws
-pub mod PlaceLaws
-pub mod CountingLaws
+-- PutLaws and RecordLaws have what is put byte by byte and record by record; PromiseLaws what the calls promise.
 pub mod PutLaws
 pub mod RecordLaws
 pub mod PromiseLaws

@@ -31,11 +31,13 @@ use Rattle.writer.specs.declared.Need.{Need}
 use Rattle.writer.specs.declared.Need.the-variants as need
 use Rattle.writer.specs.declared.Writing.{Writing}
 use Rattle.writer.specs.declared.Writing.the-variants as writing
-use Rattle.writer.specs.Places.{to-write, how-many}
+use Rattle.selection.specs.Places.{to-write, how-many}
+use Rattle.selection.specs.Counted.{counted}
+use Rattle.selection.proofs.CountingLaws.{counted-all}
 use Rattle.writer.specs.Sheet.{header-bytes, records-bytes, sheet, sheet-length}
 use Rattle.writer.specs.Judgement.{header-length, header-and-table, too-many, before-buffer, write-verdict}
 use Rattle.writer.specs.Writing.{need-number, need-values, need-by, writing-number, writing-values, writing-by, Needs, Writes}
-use Rattle.writer.specs.Loops.{Whole, Ready, Unrefused, Goes-on}
+use Rattle.writer.specs.Loops.{Ready, Unrefused, Goes-on}
 use Rattle.writer.proofs.RecordLaws.{records-length, records-none}
 use Rattle.line.proofs.CountLaws.{count-zero}
 
@@ -79,13 +81,9 @@ module _ (h : List ℕ) (l : ℕ) (e : header-and-table h l ≡ verdict.Accepted
   taken-short = omega (arith, taken-sound .most, taken-sound .fits)
 
 module _ (h table : List ℕ) where
-  pub taken-whole : header-and-table h (length table) ≡ verdict.Accepted → Whole (header h .n) (rounds (header h .t)) table
-  taken-whole e = record {
-    some = taken-sound h (length table) e .some;
-    few = taken-sound h (length table) e .most;
-    short = taken-short h (length table) e;
-    whole = taken-length h (length table) e;
-  }
+  -- what is counted is what is to be written
+  pub taken-counted : header-and-table h (length table) ≡ verdict.Accepted → counted (header h) table ≡ how-many (header h) table
+  taken-counted e = counted-all (header h) table (taken-length h (length table) e)
 
   -- ---- how many bytes are needed
 

@@ -8,7 +8,8 @@ use lib.ListN.{set}
 use borrow.Author.Tests.{eq-eqb, ne-eqb}
 use Rattle.text.specs.Laid.{laid}
 use Rattle.writer.specs.Sheet.{low, high, next-index}
-use Rattle.writer.specs.Loops.{spoken, put-at}
+use Rattle.selection.specs.Loops.{spoken}
+use Rattle.writer.specs.Loops.{put-at}
 
 -- eight bytes, from a place on
 pub laid-eight : (l : List ℕ) (at a b c d e f g h : ℕ)

@@ -19,10 +19,11 @@ use Rattle.line.proofs.LineLaws.{place-below, place-from-start, place-round, pl
 use Rattle.text.specs.Laid.{laid}
 use Rattle.text.proofs.LaidLaws.{laid-append}
 use Rattle.layout.specs.declared.Header.{Header}
-use Rattle.writer.specs.Places.{round-at, from-at, to-at, to-write, how-many, place-written}
+use Rattle.selection.specs.Places.{round-at, from-at, to-at, to-write, how-many, place-written}
 use Rattle.writer.specs.Sheet.{low, high, next-index, record-of, record-bytes, records-bytes}
-use Rattle.writer.specs.Loops.{Row, spoken, put-at, Goes-on, Ready, Of-sender}
-use Rattle.writer.proofs.RankLaws.{ranked-back}
+use Rattle.selection.specs.Loops.{Row, spoken}
+use Rattle.writer.specs.Loops.{put-at, Goes-on, Ready, Of-sender}
+use Rattle.selection.proofs.RankLaws.{ranked-back}
 use Rattle.writer.proofs.PutLaws.{spoken-none, spoken-one, put-none, put-one}
 
 module _ (h : Header) (table : List ℕ) (k : ℕ) where

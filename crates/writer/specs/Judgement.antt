@@ -10,7 +10,7 @@ use Rattle.refusal.specs.declared.cause.Verdict.{Verdict}
 use Rattle.header.specs.Header.{exact-length}
 use Rattle.layout.specs.Layout.{header, most-records}
 use Rattle.judgement.specs.Judgement.{verdict-to-8}
-use Rattle.writer.specs.Places.{how-many}
+use Rattle.selection.specs.Places.{how-many}
 use Rattle.writer.specs.Sheet.{sheet-length}
 
 -- "A header not of 12 bytes is 1."

@@ -6,7 +6,7 @@ use lib.ListN.{getD}
 use Rattle.line.specs.Count.{if_then_else_}
 use Rattle.layout.specs.declared.Header.{Header}
 use Rattle.layout.specs.Layout.{byte, header}
-use Rattle.writer.specs.Places.{round-at, from-at, to-at, how-many, place-written}
+use Rattle.selection.specs.Places.{round-at, from-at, to-at, how-many, place-written}
 
 -- "Two-byte and four-byte numbers are low byte first."
 unfoldable pub low : ℕ → ℕ

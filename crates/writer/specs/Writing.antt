@@ -11,7 +11,7 @@ use Rattle.writer.specs.declared.Need.{Need}
 use Rattle.writer.specs.declared.Need.the-variants as need
 use Rattle.writer.specs.declared.Writing.{Writing}
 use Rattle.writer.specs.declared.Writing.the-variants as writing
-use Rattle.writer.specs.Places.{how-many}
+use Rattle.selection.specs.Places.{how-many}
 use Rattle.writer.specs.Sheet.{sheet, sheet-length}
 use Rattle.writer.specs.Judgement.{before-buffer, write-verdict}
 

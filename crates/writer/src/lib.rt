@@ -1,16 +1,10 @@
 // The writer of run sheets: a header of any bytes and a run table of any bytes give a sheet in a lent buffer, or the one refusal.
 ghost use mathlib.Core.Path.{_≡_};
-ghost use Rattle.line.specs.Line.{rounds};
-ghost use Rattle.writer.specs.Places.{how-many};
 ghost use Rattle.writer.specs.Judgement.{header-and-table};
 ghost use Rattle.writer.specs.Writing.{Needs, Writes};
-ghost use Rattle.writer.specs.Loops.{Whole};
-use layout::Header;
-use line::Line;
 use refusal::cause::Cause;
 use refusal::cause::Verdict;
 
-mod count;
 mod put;
 
 // How many bytes a sheet needs.
@@ -35,19 +29,6 @@ fn header_and_table(header: &[u8], table_len: usize) -> Verdict
     judgement::to_8(header, table_len)
 }
 
-// How many records there are to write.
-fn records(h: Header, table: &[u8]) -> usize
-    requires { ⌜ Whole (h .n) (rounds (h .t)) (now table) ⌝ }
-    ensures { λ r. ⌜ r ≡ how-many h (now (table .entry)) ⌝ }
-{
-    let line = Line {
-        n: h.n,
-        t: h.t,
-        upper: h.upper,
-    };
-    count::in_table(table, h.marks, h.n as usize, line.rounds())
-}
-
 // How many bytes the sheet of a header and a table needs, or what writing it is refused by before the buffer is looked at.
 pub fn needed(header: &[u8], table: &[u8]) -> Need
     ensures { λ r. ⌜ Needs (now (header .entry)) (now (table .entry)) r ⌝ }
@@ -56,7 +37,7 @@ pub fn needed(header: &[u8], table: &[u8]) -> Need
     if let Verdict::Refused(c) = verdict {
         return Need::Refused(c);
     }
-    let k = records(layout::header_of(header), table);
+    let k = selection::count(layout::header_of(header), table);
     if 4096 < k {
         return Need::Refused(Cause::TooManyRecords);
     }

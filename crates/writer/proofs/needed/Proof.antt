@@ -1,9 +1,7 @@
 -- `needed` meets its contract, by what the header and the table are refused by and how many records there are.
 use borrow.Author.Needs.{needs}
-use mathlib.Core.Path.{sym, ap, _∙_}
-use Rattle.layout.specs.declared.Header.{Header}
-use Rattle.writer.specs.Places.{how-many}
-use Rattle.writer.proofs.PromiseLaws.{taken-whole, needs-refused, needs-fewer, needs-bytes}
+use mathlib.Core.Path.{sym, _∙_}
+use Rattle.writer.proofs.PromiseLaws.{taken-counted, needs-refused, needs-fewer, needs-bytes}
 use Rattle.writer.proofs.needed.Statement.{statement}
 use Rattle.writer.proofs.needed.Tie as tie
 
@@ -22,16 +20,15 @@ enum-told c = search needs
 header-of-requires : tie.Need-header-of-requires
 header-of-requires c κs = search needs
 
-records-requires : tie.Need-records-requires
-records-requires c κs =
-    let a = c .before .before .before .before .before .before .args in
-    rw (c .header-of .ensures) (taken-whole (a .header .now) (a .table .now) (sym (c .before .before .before .header-and-table .ensures) ∙ c .before .enum-told .given .1))
+count-requires : tie.Need-count-requires
+count-requires c κs = search needs
 
 returns-2 : tie.Need-returns-2
 returns-2 c =
     let a = c .before .before .before .before .before .before .before .before .args in
-    let k = c .before .records .ensures ∙ ap (λ (h : Header). how-many h (a .table .now)) (c .before .before .header-of .ensures) in
-    needs-fewer (a .header .now) (a .table .now) _ k (sym (c .before .before .before .before .before .header-and-table .ensures) ∙ c .before .before .before .enum-told .given .1) (c .if1 .taken)
+    let e = sym (c .before .before .before .before .before .header-and-table .ensures) ∙ c .before .before .before .enum-told .given .1 in
+    let k = rw (c .before .before .header-of .ensures) at (c .before .count .ensures) ∙ taken-counted (a .header .now) (a .table .now) e in
+    needs-fewer (a .header .now) (a .table .now) _ k e (c .if1 .taken)
 
 mul-t6 : tie.Need-mul-t6
 mul-t6 c = search needs
@@ -42,8 +39,9 @@ add-t10 c = search needs
 returns-3 : tie.Need-returns-3
 returns-3 c =
     let a = c .before .before .before .before .before .before .before .before .args in
-    let k = c .before .records .ensures ∙ ap (λ (h : Header). how-many h (a .table .now)) (c .before .before .header-of .ensures) in
-    needs-bytes (a .header .now) (a .table .now) _ k (sym (c .before .before .before .before .before .header-and-table .ensures) ∙ c .before .before .before .enum-told .given .1) (c .if1 .left)
+    let e = sym (c .before .before .before .before .before .header-and-table .ensures) ∙ c .before .before .before .enum-told .given .1 in
+    let k = rw (c .before .before .header-of .ensures) at (c .before .count .ensures) ∙ taken-counted (a .header .now) (a .table .now) e in
+    needs-bytes (a .header .now) (a .table .now) _ k e (c .if1 .left)
 
 pub needed-spec : {M : Type 1} → statement M
 needed-spec =
@@ -54,7 +52,7 @@ needed-spec =
     returns
     enum-told
     header-of-requires
-    records-requires
+    count-requires
     returns-2
     mul-t6
     add-t10

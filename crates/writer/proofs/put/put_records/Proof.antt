@@ -8,7 +8,7 @@ use lib.ListN.{length}
 use Rattle.line.specs.Count.{count}
 use Rattle.line.specs.Line.{rounds, place}
 use Rattle.line.proofs.LineLaws.{place-steps}
-use Rattle.writer.specs.Places.{to-write, how-many}
+use Rattle.selection.specs.Places.{to-write, how-many}
 use Rattle.writer.specs.Loops.{Goes-on}
 use Rattle.writer.proofs.RecordLaws.{ready-on, rounds-end, table-short, all-counted}
 use Rattle.writer.proofs.put.put_records.Statement.{statement}

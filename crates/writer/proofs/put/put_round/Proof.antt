@@ -7,7 +7,7 @@ use lib.ListN.{length}
 use Rattle.line.specs.Count.{count}
 use Rattle.line.specs.Line.{rounds, place}
 use Rattle.line.proofs.LineLaws.{place-below, place-steps}
-use Rattle.writer.specs.Places.{to-write}
+use Rattle.selection.specs.Places.{to-write}
 use Rattle.writer.specs.Loops.{Goes-on}
 use Rattle.writer.proofs.RecordLaws.{ready-on, round-end, table-short}
 use Rattle.writer.proofs.put.put_round.Statement.{statement}

@@ -5,7 +5,7 @@ use Prim.Native.Nat.{ℕ, _+_, _-_, _≤_}
 use mathlib.Core.Path.{_≡_, refl, sym, ap, _∙_}
 use lib.ListN.{length}
 use Rattle.line.specs.Count.{count}
-use Rattle.writer.specs.Places.{to-write}
+use Rattle.selection.specs.Places.{to-write}
 use Rattle.writer.specs.Loops.{Goes-on}
 use Rattle.writer.proofs.RecordLaws.{place-inside, byte-counted, byte-within, byte-goes-on}
 use Rattle.writer.proofs.put.put_row.Statement.{statement}

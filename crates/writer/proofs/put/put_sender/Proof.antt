@@ -4,7 +4,7 @@ use native.Mathlib.Nat.{le-refl}
 use native.Mathlib.Omega.{arith}
 use Prim.Native.Nat.{_-_}
 use mathlib.Core.Path.{sym, _∙_}
-use Rattle.writer.proofs.CountingLaws.{row-unmarked}
+use Rattle.selection.proofs.CountingLaws.{row-unmarked}
 use Rattle.writer.proofs.RecordLaws.{sender-row}
 use Rattle.writer.proofs.put.put_sender.Statement.{statement}
 use Rattle.writer.proofs.put.put_sender.Tie as tie

@@ -1,11 +1,11 @@
--- `count::spoken` meets its contract.
+-- `spoken` meets its contract.
 use mathlib.Core.Path.{sym}
 use native.Mathlib.Omega.{arith}
 use borrow.Author.Tests.{eq-eqb, ne-eqb}
 use Rattle.line.proofs.CountLaws.{if-true, if-false}
-use Rattle.writer.specs.Loops.{spoken}
-use Rattle.writer.proofs.count.spoken.Statement.{statement}
-use Rattle.writer.proofs.count.spoken.Tie as tie
+use Rattle.selection.specs.Loops.{spoken}
+use Rattle.selection.proofs.spoken.Statement.{statement}
+use Rattle.selection.proofs.spoken.Tie as tie
 
 returns : tie.Need-returns
 unfolding spoken

@@ -1,14 +1,14 @@
--- `count::in_round` meets its contract. The loop's invariant: k bytes of the first i stations are to be written.
+-- `in_round` meets its contract. The loop's invariant: k bytes of the first i stations are to be written.
 use borrow.Author.Needs.{needs}
 use native.Mathlib.Omega.{arith}
 use Prim.Native.Nat.{ℕ, _+_, _-_, _*_, _≤_}
 use mathlib.Core.Path.{_≡_, ap, _∙_}
 use Rattle.line.proofs.LineLaws.{next-row, row-within}
-use Rattle.writer.specs.Places.{to-write}
-use Rattle.writer.specs.Loops.{More}
-use Rattle.writer.proofs.CountingLaws.{more-none, more-row}
-use Rattle.writer.proofs.count.in_round.Statement.{statement}
-use Rattle.writer.proofs.count.in_round.Tie as tie
+use Rattle.selection.specs.Places.{to-write}
+use Rattle.selection.specs.Loops.{More}
+use Rattle.selection.proofs.CountingLaws.{more-none, more-row}
+use Rattle.selection.proofs.in_round.Statement.{statement}
+use Rattle.selection.proofs.in_round.Tie as tie
 
 abbrev Inv-loop : tie.InvT-loop
 Inv-loop table marks at n k₀ i₀ row₀ k i row = (i ≤ n) × (row ≡ at + i * n) × More (to-write n marks table) at row k × (k ≤ i * n)

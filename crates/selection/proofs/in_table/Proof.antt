@@ -1,4 +1,4 @@
--- `count::in_table` meets its contract. The loop's invariant: k bytes of the rounds so far are to be written.
+-- `in_table` meets its contract. The loop's invariant: k bytes of the rounds so far are to be written.
 use borrow.Author.Needs.{needs}
 use native.Mathlib.Omega.{arith}
 use Prim.Native.Nat.{_+_, _-_, _*_, _≤_}
@@ -7,10 +7,10 @@ use lib.ListN.{length}
 use Rattle.line.specs.Count.{count}
 use Rattle.line.proofs.CountLaws.{count-zero, count-le}
 use Rattle.line.proofs.LineLaws.{product-fits}
-use Rattle.writer.specs.Places.{to-write}
-use Rattle.writer.proofs.CountingLaws.{round-rows, no-rounds, next-round, round-within}
-use Rattle.writer.proofs.count.in_table.Statement.{statement}
-use Rattle.writer.proofs.count.in_table.Tie as tie
+use Rattle.selection.specs.Places.{to-write}
+use Rattle.selection.proofs.CountingLaws.{round-rows, no-rounds, next-round, round-within}
+use Rattle.selection.proofs.in_table.Statement.{statement}
+use Rattle.selection.proofs.in_table.Tie as tie
 
 abbrev Inv-loop : tie.InvT-loop
 Inv-loop table marks n last k₀ round₀ at₀ k round at = (round ≤ last) × (at ≡ round * n * n) × (k ≡ count at (to-write n marks table))
@@ -46,7 +46,7 @@ add-k c =
     )
 
 mul-at : tie.Need-mul-at Inv-loop μ-loop
-mul-at c = product-fits {p = 32} {q = 32} (c .before .before .before .before .pre .few) (c .before .before .before .before .pre .few) tt
+mul-at c = product-fits {p = 255} {q = 255} (omega (arith, c .before .before .before .before .pre .few)) (omega (arith, c .before .before .before .before .pre .few)) tt
 
 add-at : tie.Need-add-at Inv-loop μ-loop
 add-at c =

@@ -1,14 +1,14 @@
--- `count::in_row` meets its contract. The loop's invariant: k of the first j bytes are not silence.
+-- `in_row` meets its contract. The loop's invariant: k of the first j bytes are not silence.
 use borrow.Author.Needs.{needs}
 use native.Mathlib.Omega.{arith}
 use Prim.Native.Nat.{_-_, _≤_}
 use mathlib.Core.Path.{_≡_, sym}
 use Rattle.line.specs.Count.{count}
 use Rattle.line.proofs.CountLaws.{count-zero}
-use Rattle.writer.specs.Loops.{speaks}
-use Rattle.writer.proofs.CountingLaws.{spoken-turn}
-use Rattle.writer.proofs.count.in_row.Statement.{statement}
-use Rattle.writer.proofs.count.in_row.Tie as tie
+use Rattle.selection.specs.Loops.{speaks}
+use Rattle.selection.proofs.CountingLaws.{spoken-turn}
+use Rattle.selection.proofs.in_row.Statement.{statement}
+use Rattle.selection.proofs.in_row.Tie as tie
 
 abbrev Inv-loop : tie.InvT-loop
 Inv-loop table at n k₀ j₀ k j = (j ≤ n) × (k ≡ count j (speaks table at)) × (k ≤ j)

@@ -2,20 +2,24 @@
 use Prim.Native.Nat.{ℕ, zero, suc, _+_, _-_, _*_, _≤_, _<_}
 use mathlib.Core.Path.{_≡_, refl, sym, _∙_}
 use mathlib.Core.Bool.{Bool, true, false, not, _&&_}
+use mathlib.Core.Logic.{_≢_}
 use mathlib.Core.List.{List}
 use native.Mathlib.Nat.{add-zero, add-suc, add-assoc, add-mul, zero-mul, mul-le-mul-right}
 use native.Mathlib.Numerals.{add-one}
 use native.Mathlib.Omega.{arith}
 use lib.Dec.{eqb}
 use lib.ListN.{length, getD}
+use borrow.Author.Tests.{eq-eqb, ne-eqb}
 use Rattle.line.specs.Count.{if_then_else_, count}
 use Rattle.line.specs.Marks.{marked}
-use Rattle.line.specs.Line.{place}
+use Rattle.line.specs.Line.{table-length, place}
 use Rattle.line.specs.Ballot.{silence}
 use Rattle.line.proofs.CountLaws.{count-same, count-none}
 use Rattle.line.proofs.LineLaws.{next-row, row-within, place-from-start, place-from}
-use Rattle.writer.specs.Places.{from-at, to-write}
-use Rattle.writer.specs.Loops.{Row, Round, spoken, speaks, More}
+use Rattle.layout.specs.declared.Header.{Header}
+use Rattle.selection.specs.Places.{from-at, to-write, how-many}
+use Rattle.selection.specs.Counted.{counted}
+use Rattle.selection.specs.Loops.{Row, Round, spoken, speaks, More}
 
 -- ---- counting on from a place
 
@@ -82,3 +86,18 @@ no-rounds n = rw (zero-mul n, zero-mul n)
 -- a round ends within the table
 pub round-within : (n r last : ℕ) → r < last → r * n * n + n * n ≤ last * n * n
 round-within n r last h = rw (← next-round n r) (mul-le-mul-right n (mul-le-mul-right n (let g : r + 1 ≤ last = omega arith in g)))
+
+-- ---- what the call answers
+
+module _ (h : Header) (table : List ℕ) where
+  pub counted-none : length table ≢ table-length (h .n) (h .t) → 0 ≡ counted h table
+  unfolding counted
+  counted-none e = rw (ne-eqb (length table) (table-length (h .n) (h .t)) e)
+
+  pub counted-all : length table ≡ table-length (h .n) (h .t) → counted h table ≡ how-many h table
+  unfolding counted
+  counted-all e = rw (eq-eqb (length table) (table-length (h .n) (h .t)) e)
+
+  pub counted-is : (r : ℕ) → length table ≡ table-length (h .n) (h .t) → r ≡ count (table-length (h .n) (h .t)) (to-write (h .n) (h .marks) table) → r ≡ counted h table
+  unfolding how-many
+  counted-is r e q = q ∙ sym (counted-all e)

@@ -1,13 +1,13 @@
--- `count::from_station` meets its contract: nothing is to be written of a station that is not marked.
+-- `from_station` meets its contract: nothing is to be written of a station that is not marked.
 use borrow.Author.Needs.{needs}
 use native.Mathlib.Nat.{le-refl}
 use native.Mathlib.Omega.{arith}
 use mathlib.Core.Path.{sym, _∙_}
 use Rattle.line.proofs.CountLaws.{count-le}
-use Rattle.writer.specs.Loops.{speaks}
-use Rattle.writer.proofs.CountingLaws.{row-marked, row-unmarked}
-use Rattle.writer.proofs.count.from_station.Statement.{statement}
-use Rattle.writer.proofs.count.from_station.Tie as tie
+use Rattle.selection.specs.Loops.{speaks}
+use Rattle.selection.proofs.CountingLaws.{row-marked, row-unmarked}
+use Rattle.selection.proofs.from_station.Statement.{statement}
+use Rattle.selection.proofs.from_station.Tie as tie
 
 is-marked-requires : tie.Need-is-marked-requires
 is-marked-requires c κs = search needs
