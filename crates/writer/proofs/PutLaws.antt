@@ -11,20 +11,27 @@ use Rattle.writer.specs.Sheet.{low, high, next-index}
 use Rattle.selection.specs.Loops.{spoken}
 use Rattle.writer.specs.Loops.{put-at}
 
--- eight bytes, from a place on
-pub laid-eight : (l : List ℕ) (at a b c d e f g h : ℕ)
-    → set (set (set (set (set (set (set (set l at a) (at + 1) b) (at + 2) c) (at + 3) d) (at + 4) e) (at + 5) f) (at + 6) g) (at + 7) h
-    ≡ laid l at (a ∷ b ∷ c ∷ d ∷ e ∷ f ∷ g ∷ h ∷ [])
+-- four bytes, from a place on
+pub laid-four : (l : List ℕ) (at a b c d : ℕ) → set (set (set (set l at a) (at + 1) b) (at + 2) c) (at + 3) d ≡ laid l at (a ∷ b ∷ c ∷ d ∷ [])
 unfolding laid
-laid-eight l at a b c d e f g h =
+laid-four l at a b c d =
     let p₁ : at + 1 ≡ suc at = omega arith in
     let p₂ : at + 2 ≡ suc (suc at) = omega arith in
     let p₃ : at + 3 ≡ suc (suc (suc at)) = omega arith in
-    let p₄ : at + 4 ≡ suc (suc (suc (suc at))) = omega arith in
-    let p₅ : at + 5 ≡ suc (suc (suc (suc (suc at)))) = omega arith in
-    let p₆ : at + 6 ≡ suc (suc (suc (suc (suc (suc at))))) = omega arith in
-    let p₇ : at + 7 ≡ suc (suc (suc (suc (suc (suc (suc at)))))) = omega arith in
-    rw (p₁, p₂, p₃, p₄, p₅, p₆, p₇)
+    rw (p₁, p₂, p₃)
+
+-- four more after them
+pub laid-eight : (l : List ℕ) (at a b c d e f g h : ℕ)
+    → laid (laid l at (a ∷ b ∷ c ∷ d ∷ [])) (at + 4) (e ∷ f ∷ g ∷ h ∷ []) ≡ laid l at (a ∷ b ∷ c ∷ d ∷ e ∷ f ∷ g ∷ h ∷ [])
+unfolding laid
+laid-eight l at a b c d e f g h = let p : at + 4 ≡ suc (suc (suc (suc at))) = omega arith in rw p
+
+-- and three times four from the front
+pub laid-twelve : (l : List ℕ) (a b c d e f g h i j k m : ℕ)
+    → laid (laid (laid l 0 (a ∷ b ∷ c ∷ d ∷ [])) 4 (e ∷ f ∷ g ∷ h ∷ [])) 8 (i ∷ j ∷ k ∷ m ∷ [])
+    ≡ laid l 0 (a ∷ b ∷ c ∷ d ∷ e ∷ f ∷ g ∷ h ∷ i ∷ j ∷ k ∷ m ∷ [])
+unfolding laid
+laid-twelve l a b c d e f g h i j k m = refl
 
 -- ---- one byte of the table
 

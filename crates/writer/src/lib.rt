@@ -1,5 +1,8 @@
 // The writer of run sheets: a header of any bytes and a run table of any bytes give a sheet in a lent buffer, or the one refusal.
 ghost use mathlib.Core.Path.{_≡_};
+ghost use lib.ListN.{length};
+ghost use Rattle.refusal.specs.declared.cause.Verdict.the-variants.{Accepted};
+ghost use Rattle.writer.specs.declared.Need.the-variants.{Bytes};
 ghost use Rattle.writer.specs.Judgement.{header-and-table};
 ghost use Rattle.writer.specs.Writing.{Needs, Writes};
 use refusal::cause::Cause;
@@ -29,19 +32,40 @@ fn header_and_table(header: &[u8], table_len: usize) -> Verdict
     judgement::to_8(header, table_len)
 }
 
-// How many bytes the sheet of a header and a table needs, or what writing it is refused by before the buffer is looked at.
-pub fn needed(header: &[u8], table: &[u8]) -> Need
+// How many bytes the sheet of a header and a table needs that causes 1 to 8 let through: cause 14.
+fn records_needed(header: &[u8], table: &[u8]) -> Need
+    requires { ⌜ header-and-table (now header) (length (now table)) ≡ Accepted ⌝ }
     ensures { λ r. ⌜ Needs (now (header .entry)) (now (table .entry)) r ⌝ }
 {
-    let verdict = header_and_table(header, table.len());
-    if let Verdict::Refused(c) = verdict {
-        return Need::Refused(c);
-    }
     let k = selection::count(layout::header_of(header), table);
     if 4096 < k {
         return Need::Refused(Cause::TooManyRecords);
     }
     Need::Bytes(12 + 8 * k)
+}
+
+// How many bytes the sheet of a header and a table needs, or what writing it is refused by before the buffer is looked at.
+pub fn needed(header: &[u8], table: &[u8]) -> Need
+    ensures { λ r. ⌜ Needs (now (header .entry)) (now (table .entry)) r ⌝ }
+{
+    let verdict = header_and_table(header, table.len());
+    match verdict {
+        Verdict::Accepted => records_needed(header, table),
+        Verdict::Refused(c) => Need::Refused(c),
+    }
+}
+
+// Writes a sheet that needs so many bytes: cause 8, of the buffer's length.
+fn write_needed(header: &[u8], table: &[u8], sheet: &mut [u8], len: usize) -> Writing
+    requires { ⌜ Needs (now header) (now table) (Bytes «len») ⌝ }
+    ensures { λ r. ⌜ Writes (now (header .entry)) (now (table .entry)) (now (sheet .entry)) (now (sheet .exit)) r ⌝ }
+{
+    if sheet.len() != len {
+        return Writing::Refused(Cause::Length);
+    }
+    let k = (len - 12) / 8;
+    put::sheet(header, table, sheet, k);
+    Writing::Written(k)
 }
 
 // Writes the sheet of a header and a table into a lent buffer of the length that it needs.
@@ -50,14 +74,7 @@ pub fn write(header: &[u8], table: &[u8], sheet: &mut [u8]) -> Writing
 {
     let need = needed(header, table);
     match need {
-        Need::Bytes(len) => {
-            if sheet.len() != len {
-                return Writing::Refused(Cause::Length);
-            }
-            let k = (len - 12) / 8;
-            put::sheet(header, table, sheet, k);
-            Writing::Written(k)
-        }
+        Need::Bytes(len) => write_needed(header, table, sheet, len),
         Need::Refused(c) => Writing::Refused(c),
     }
 }

@@ -23,23 +23,25 @@ fn first_index(k: usize) -> u8
     if k == 0 { 0 } else { 1 }
 }
 
+// Four bytes, from `at` on.
+fn put_four(sheet: &mut [u8], at: usize, a: u8, b: u8, c: u8, d: u8)
+    requires { ⌜ at + 4 ≤ length (now sheet) ⌝ }
+    ensures { λ _. ⌜ now (sheet .exit) ≡ laid (now (sheet .entry)) at (a ∷ b ∷ c ∷ d ∷ []) ⌝ }
+{
+    sheet[at] = a;
+    sheet[at + 1] = b;
+    sheet[at + 2] = c;
+    sheet[at + 3] = d;
+}
+
 // The header's twelve bytes, where k records follow.
 fn put_header(header: &[u8], sheet: &mut [u8], k: usize)
     requires { ⌜ (length (now header) ≡ 12) × (12 ≤ length (now sheet)) ⌝ }
     ensures { λ _. ⌜ now (sheet .exit) ≡ laid (now (sheet .entry)) 0 (header-bytes (now (header .entry)) k) ⌝ }
 {
-    sheet[0] = header[0];
-    sheet[1] = header[1];
-    sheet[2] = header[2];
-    sheet[3] = header[3];
-    sheet[4] = header[4];
-    sheet[5] = header[5];
-    sheet[6] = first_index(k);
-    sheet[7] = 0;
-    sheet[8] = header[8];
-    sheet[9] = header[9];
-    sheet[10] = header[10];
-    sheet[11] = header[11];
+    put_four(sheet, 0, header[0], header[1], header[2], header[3]);
+    put_four(sheet, 4, header[4], header[5], first_index(k), 0);
+    put_four(sheet, 8, header[8], header[9], header[10], header[11]);
 }
 
 // The eight bytes of a record, from `at` on.
@@ -47,14 +49,8 @@ fn put_record(sheet: &mut [u8], at: usize, round: u8, from: u8, to: u8, ballot: 
     requires { ⌜ at + 8 ≤ length (now sheet) ⌝ }
     ensures { λ _. ⌜ now (sheet .exit) ≡ laid (now (sheet .entry)) at (round ∷ from ∷ to ∷ ballot ∷ low next ∷ high next ∷ 0 ∷ 0 ∷ []) ⌝ }
 {
-    sheet[at] = round;
-    sheet[at + 1] = from;
-    sheet[at + 2] = to;
-    sheet[at + 3] = ballot;
-    sheet[at + 4] = (next % 256) as u8;
-    sheet[at + 5] = (next / 256) as u8;
-    sheet[at + 6] = 0;
-    sheet[at + 7] = 0;
+    put_four(sheet, at, round, from, to, ballot);
+    put_four(sheet, at + 4, (next % 256) as u8, (next / 256) as u8, 0, 0);
 }
 
 // What follows record m of k.

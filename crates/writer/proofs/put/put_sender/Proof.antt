@@ -10,7 +10,7 @@ use Rattle.writer.proofs.put.put_sender.Statement.{statement}
 use Rattle.writer.proofs.put.put_sender.Tie as tie
 
 sub-is-marked : tie.Need-sub-is-marked
-sub-is-marked c = search needs
+sub-is-marked c = omega (arith, c .before .before .pre .1 .from-low)
 
 is-marked-requires : tie.Need-is-marked-requires
 is-marked-requires c κs = search needs
@@ -21,10 +21,10 @@ put-row-requires c κs =
     (s .pre .0, s .pre .1, sym (c .before .before .is-marked .ensures) ∙ c .before .if1 .taken)
 
 same-length : tie.Need-same-length
-same-length c = search needs
+same-length c = c .before .before .put-row .kept .1 .1 .0
 
 returns : tie.Need-returns
-returns c = search needs
+returns c = c .before .before .put-row .ensures
 
 returns-2 : tie.Need-returns-2
 returns-2 c =
