@@ -2,13 +2,14 @@
 use Prim.Native.Nat.{ℕ}
 use mathlib.Core.Path.{_≡_}
 use mathlib.Core.List.{List}
+use Rattle.refusal.specs.Cause.{answer-word}
 use Rattle.state.specs.declared.Station.{Station}
 use Rattle.station.specs.declared.Opened.{Opened}
 use Rattle.station.specs.declared.Told.{Told}
 use Rattle.station.specs.declared.Advanced.{Advanced}
 use Rattle.station.specs.declared.StationResult.{StationResult}
 use Rattle.station.specs.Answers.{opened-number, Opens, told-number, Tells, advanced-number, Advances, result-number, Results}
-use Rattle.controller.specs.Words.{station-of, answer-word, opened-word, told-word, advanced-word, result-word, OpenAnswer, BallotAnswer, AdvanceAnswer, ResultAnswer}
+use Rattle.controller.specs.Words.{station-of, opened-word, told-word, advanced-word, result-word, OpenAnswer, BallotAnswer, AdvanceAnswer, ResultAnswer}
 
 module _ (n t T sender own : ℕ) where
   pub opened-as : (value r : ℕ) (o : Opened) → Opens n t T sender own value o

@@ -3,6 +3,7 @@
 use Prim.Native.Nat.{ℕ, _+_, _*_, _/_, _%_}
 use mathlib.Core.Path.{_≡_}
 use mathlib.Core.List.{List}
+use Rattle.refusal.specs.Cause.{answer-word}
 use Rattle.state.specs.declared.Station.{Station}
 use Rattle.station.specs.declared.Opened.{Opened}
 use Rattle.station.specs.declared.Opened.the-variants as opened
@@ -35,10 +36,6 @@ station-of n t T sender own state = record {
   z = state / 65536 % 256;
   grade = state / 16777216 % 256;
 }
-
--- an answer: document 01's number, 0 where nothing is refused, above the values
-abbrev pub answer-word : ℕ → ℕ → ℕ
-answer-word number values = 4294967296 * number + values
 
 -- ---- the values of each answer
 

@@ -1,8 +1,9 @@
 // The station for a bonder's controller in C: numbers, and the row's byte slice. C keeps the five numbers that the station was opened with and
 // a state of 32 bits. Each answer is 64 bits: document 01's number of the refusal above, 0 where nothing is refused, and the values below.
 ghost use mathlib.Core.Path.{_≡_};
-ghost use Rattle.controller.specs.Words.{station-of, state-word, answer-word, opened-word, told-word, advanced-word, result-word};
+ghost use Rattle.controller.specs.Words.{station-of, state-word, opened-word, told-word, advanced-word, result-word};
 ghost use Rattle.controller.specs.Words.{OpenAnswer, BallotAnswer, AdvanceAnswer, ResultAnswer};
+use refusal::cause;
 use refusal::cause::Cause;
 use state::Station;
 use station::Advanced;
@@ -19,8 +20,8 @@ pub extern "C" fn vembopu_open(n: u8, t: u8, upper: u8, sender: u8, own: u8, val
 {
     let opened = station::open(n, t, upper, sender, own, value);
     match opened {
-        Opened::Ready(s) => words::answer(0, words::state(s)),
-        Opened::Refused(c) => words::answer(c.number(), 0),
+        Opened::Ready(s) => cause::answer(0, words::state(s)),
+        Opened::Refused(c) => cause::answer(c.number(), 0),
     }
 }
 
@@ -31,8 +32,8 @@ pub extern "C" fn vembopu_ballot(n: u8, t: u8, upper: u8, sender: u8, own: u8, s
 {
     let told = station::ballot(words::station(n, t, upper, sender, own, state));
     match told {
-        Told::Ballot(b) => words::answer(0, b as u32),
-        Told::Refused(c) => words::answer(c.number(), 0),
+        Told::Ballot(b) => cause::answer(0, b as u32),
+        Told::Refused(c) => cause::answer(c.number(), 0),
     }
 }
 
@@ -51,8 +52,8 @@ pub extern "C" fn vembopu_advance(
 {
     let advanced = station::advance(words::station(n, t, upper, sender, own, state), row);
     match advanced {
-        Advanced::Next(s) => words::answer(0, words::state(s)),
-        Advanced::Refused(c) => words::answer(c.number(), state),
+        Advanced::Next(s) => cause::answer(0, words::state(s)),
+        Advanced::Refused(c) => cause::answer(c.number(), state),
     }
 }
 
@@ -63,11 +64,11 @@ pub extern "C" fn vembopu_result(n: u8, t: u8, upper: u8, sender: u8, own: u8, s
 {
     let found = station::result(words::station(n, t, upper, sender, own, state));
     match found {
-        StationResult::Running(r) => words::answer(0, words::four(0, r, 0, 0)),
-        StationResult::Done { value, grade, flag } => words::answer(
+        StationResult::Running(r) => cause::answer(0, words::four(0, r, 0, 0)),
+        StationResult::Done { value, grade, flag } => cause::answer(
             0,
             words::four(1, value, grade, flag),
         ),
-        StationResult::Refused(c) => words::answer(c.number(), 0),
+        StationResult::Refused(c) => cause::answer(c.number(), 0),
     }
 }

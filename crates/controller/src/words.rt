@@ -1,6 +1,6 @@
 // Bytes put into words and taken out again, the lowest byte first.
 ghost use mathlib.Core.Path.{_≡_};
-ghost use Rattle.controller.specs.Words.{word, station-of, state-word, answer-word};
+ghost use Rattle.controller.specs.Words.{word, station-of, state-word};
 use state::Station;
 
 // Four bytes as one number.
@@ -32,11 +32,4 @@ pub(crate) fn station(n: u8, t: u8, upper: u8, sender: u8, own: u8, state: u32) 
         z: (state / 65536 % 256) as u8,
         grade: (state / 16777216 % 256) as u8,
     }
-}
-
-// A refusal's number above the values.
-pub(crate) fn answer(number: u8, values: u32) -> u64
-    ensures { λ r. ⌜ r ≡ answer-word number values ⌝ }
-{
-    4294967296 * (number as u64) + values as u64
 }

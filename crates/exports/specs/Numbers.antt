@@ -2,19 +2,44 @@
 use Prim.Native.Nat.{ℕ}
 use mathlib.Core.Path.{_≡_}
 use mathlib.Core.List.{List}
-use Rattle.refusal.specs.Cause.{code}
+use Rattle.refusal.specs.Cause.{code, answer-word}
 use Rattle.refusal.specs.declared.cause.Verdict.{Verdict}
 use Rattle.broadcast.specs.Bytes.{Run}
 use Rattle.exchange.specs.Promise.{Exchanged}
 use Rattle.rehearsal.specs.Promise.{Rehearsed}
 use Rattle.sheet.specs.declared.Reading.{Reading}
 use Rattle.sheet.specs.Reading.{reading-number, Reads}
+use Rattle.writer.specs.declared.Need.{Need}
+use Rattle.writer.specs.declared.Need.the-variants as need
+use Rattle.writer.specs.declared.Writing.{Writing}
+use Rattle.writer.specs.declared.Writing.the-variants as writing
+use Rattle.writer.specs.Writing.{need-number, Needs, writing-number, Writes}
 
 -- `vembopu_read`: what `sheet::read` promises. The header's numbers are the sheet's own bytes.
 pub record ReadNumber (s table₀ table₁ : List ℕ) (r : ℕ) : Type 0 where
   pub answer : Reading
   pub reads : Reads s table₀ table₁ answer
   pub number-is : r ≡ reading-number answer
+
+-- `vembopu_sheet_len`: what `writer::needed` promises; the bytes below the refusal's number
+abbrev pub need-word : Need → ℕ
+need-word (need.Bytes l) = l
+need-word (need.Refused c) = 0
+
+pub record NeedsWord (h table : List ℕ) (r : ℕ) : Type 0 where
+  pub answer : Need
+  pub needs : Needs h table answer
+  pub word-is : r ≡ answer-word (need-number answer) (need-word answer)
+
+-- `vembopu_write`: what `writer::write` promises; the number of records below the refusal's number
+abbrev pub writing-word : Writing → ℕ
+writing-word (writing.Written k) = k
+writing-word (writing.Refused c) = 0
+
+pub record WritesWord (h table sheet₀ sheet₁ : List ℕ) (r : ℕ) : Type 0 where
+  pub answer : Writing
+  pub writes : Writes h table sheet₀ sheet₁ answer
+  pub word-is : r ≡ answer-word (writing-number answer) (writing-word answer)
 
 -- `vembopu_rehearse`: what `rehearsal::rehearse` promises
 pub record RehearsedNumber (R : Run) (log₀ log₁ outcomes₀ outcomes₁ : List ℕ) (r : ℕ) : Type 0 where

@@ -1,9 +1,12 @@
-// The calls on whole lines for other languages: numbers and byte slices, and document 01's number of the refusal as the answer, 0 where nothing is
-// refused. Each promises what the call that it passes on promises.
+// The calls on whole lines for other languages: numbers and byte slices, and the documents' number of the refusal as the answer, 0 where nothing is
+// refused; of the writer's calls it stands in the upper 32 bits, above what the call gives. Each promises what the call that it passes on promises.
 ghost use Rattle.rehearsal.specs.Promise.{run-of};
-ghost use Rattle.exports.specs.Numbers.{ReadNumber, RehearsedNumber, ExchangedNumber};
+ghost use Rattle.exports.specs.Numbers.{ReadNumber, NeedsWord, WritesWord, RehearsedNumber, ExchangedNumber};
 use line::Line;
+use refusal::cause;
 use sheet::Reading;
+use writer::Need;
+use writer::Writing;
 
 // Reads a run sheet into a run table.
 #[no_mangle]
@@ -14,6 +17,30 @@ pub extern "C" fn vembopu_read(sheet: &[u8], table: &mut [u8]) -> u8
     match reading {
         Reading::Accepted(_) => 0,
         Reading::Refused(c) => c.number(),
+    }
+}
+
+// How many bytes the sheet of a header and a run table needs.
+#[no_mangle]
+pub extern "C" fn vembopu_sheet_len(header: &[u8], table: &[u8]) -> u64
+    ensures { λ r. ⌜ NeedsWord (now (header .entry)) (now (table .entry)) r ⌝ }
+{
+    let need = writer::needed(header, table);
+    match need {
+        Need::Bytes(len) => cause::answer(0, len as u32),
+        Need::Refused(c) => cause::answer(c.number(), 0),
+    }
+}
+
+// Writes the sheet of a header and a run table.
+#[no_mangle]
+pub extern "C" fn vembopu_write(header: &[u8], table: &[u8], sheet: &mut [u8]) -> u64
+    ensures { λ r. ⌜ WritesWord (now (header .entry)) (now (table .entry)) (now (sheet .entry)) (now (sheet .exit)) r ⌝ }
+{
+    let writing = writer::write(header, table, sheet);
+    match writing {
+        Writing::Written(k) => cause::answer(0, k as u32),
+        Writing::Refused(c) => cause::answer(c.number(), 0),
     }
 }
 

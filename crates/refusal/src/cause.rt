@@ -1,6 +1,6 @@
 // The causes of refusal, each with its number in documents 01 and 02.
 ghost use mathlib.Core.Path.{_≡_};
-ghost use Rattle.refusal.specs.Cause.{number, code, Judged, refused-if, _or-else_};
+ghost use Rattle.refusal.specs.Cause.{number, code, Judged, refused-if, _or-else_, answer-word};
 
 pub enum Cause {
     SheetForm,
@@ -80,4 +80,11 @@ impl Verdict {
             Verdict::Refused(c) => Verdict::Refused(c),
         }
     }
+}
+
+// For C: a number of the documents above the values of an answer.
+pub fn answer(number: u8, values: u32) -> u64
+    ensures { λ r. ⌜ r ≡ answer-word number values ⌝ }
+{
+    4294967296 * (number as u64) + values as u64
 }

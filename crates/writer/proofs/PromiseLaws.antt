@@ -85,6 +85,15 @@ module _ (h table : List ℕ) where
   pub taken-counted : header-and-table h (length table) ≡ verdict.Accepted → counted (header h) table ≡ how-many (header h) table
   taken-counted e = counted-all (header h) table (taken-length h (length table) e)
 
+  -- what is not refused before the buffer is looked at
+  before-both : before-buffer h table ≡ verdict.Accepted → (header-and-table h (length table) ≡ verdict.Accepted) × (too-many h table ≡ verdict.Accepted)
+  unfolding before-buffer
+  before-both e = both-accepted _ _ e
+
+  before-few : before-buffer h table ≡ verdict.Accepted → how-many (header h) table ≤ 4096
+  unfolding too-many
+  before-few e = ltb-false most-records (how-many (header h) table) (accepted-false _ _ (before-both e .1))
+
   -- ---- how many bytes are needed
 
   needs-by : (v : Verdict) (answer : Need) → before-buffer h table ≡ v → answer ≡ need-by v (sheet-length h table) → Needs h table answer
@@ -173,12 +182,15 @@ module _ (h table : List ℕ) where
     told-records = omega (arith, told-bytes l n)
 
     told-both : (header-and-table h (length table) ≡ verdict.Accepted) × (too-many h table ≡ verdict.Accepted)
-    unfolding before-buffer
-    told-both = both-accepted _ _ (told-accepted l n)
+    told-both = before-both (told-accepted l n)
 
     told-few : how-many (header h) table ≤ 4096
-    unfolding too-many
-    told-few = ltb-false most-records (how-many (header h) table) (accepted-false _ _ (told-both .1))
+    told-few = before-few (told-accepted l n)
+
+    -- no sheet is longer
+    pub told-most : l ≤ 32780
+    unfolding sheet-length
+    told-most = omega (arith, told-bytes l n, told-few)
 
     -- nothing is left to refuse
     pub unrefused : (sheet : List ℕ) → length sheet ≡ l → Unrefused h table sheet ((l - 12) / 8)
@@ -202,6 +214,21 @@ module _ (h table : List ℕ) where
     unfolding write-verdict
     writes-sheet sheet₀ sheet₁ e s =
         writes-by sheet₀ sheet₁ verdict.Accepted _ (rw (told-accepted l n, length-accepts (sheet-length h table) (length sheet₀) (e ∙ told-bytes l n))) (rw told-records) s
+
+  abbrev records-told : Writing → ℕ
+  records-told (writing.Written k) = k
+  records-told (writing.Refused c) = 0
+
+  -- no sheet has more records
+  pub written-most : (sheet₀ sheet₁ : List ℕ) (k : ℕ) → Writes h table sheet₀ sheet₁ (writing.Written k) → k ≤ 4096
+  unfolding write-verdict
+  written-most sheet₀ sheet₁ k w = go (write-verdict h table (length sheet₀)) refl (w .answer-is)
+    where
+      go : (v : Verdict) → write-verdict h table (length sheet₀) ≡ v → writing.Written k ≡ writing-by v (how-many (header h) table) → k ≤ 4096
+      go verdict.Accepted e a =
+          let b = before-few (both-accepted (before-buffer h table) (exact-length (sheet-length h table) (length sheet₀)) e .0) in
+          omega (arith, ap records-told a, b)
+      go (verdict.Refused c) e a = omega (arith, ap records-told a)
 
   -- ---- the whole sheet: the header, then all records
 
