@@ -9,10 +9,12 @@
 #include "exports.h"
 #include "inputs.h"
 
-enum { READ, REHEARSE, EXCHANGE };
+enum { READ, SHEET_LEN, WRITE, REHEARSE, EXCHANGE };
 enum { BUFFERS = 3, UNWRITTEN = 170 };
 
-static const char *const call_name[] = {"vembopu_read", "vembopu_rehearse", "vembopu_exchange"};
+static const char *const call_name[] = {"vembopu_read", "vembopu_sheet_len", "vembopu_write", "vembopu_rehearse",
+                                        "vembopu_exchange"};
+static const int buffers[] = {2, 2, 3, 3, 3};
 
 /* One call. The content of a buffer that the call writes is NULL. */
 struct trial {
@@ -25,13 +27,17 @@ struct trial {
 };
 
 static struct guarded area[BUFFERS];
-static uint8_t sheet[SHEET + RECORD], ballots[TABLE], inputs[INPUTS], written[BUFFERS][TABLE];
+static uint8_t sheet[SHEET + RECORD], table[TABLE], ballots[TABLE], inputs[INPUTS], written[BUFFERS][TABLE];
 
 static int run(const struct trial *x, uint8_t *const at[])
 {
     switch (x->call) {
     case READ:
         return vembopu_read(at[0], x->len[0], at[1], x->len[1]);
+    case SHEET_LEN:
+        return (int)vembopu_refusal(vembopu_sheet_len(at[0], x->len[0], at[1], x->len[1]));
+    case WRITE:
+        return (int)vembopu_refusal(vembopu_write(at[0], x->len[0], at[1], x->len[1], at[2], x->len[2]));
     case REHEARSE:
         return vembopu_rehearse(x->n, x->t, x->T, x->sender, x->value, x->marks, at[0], x->len[0], at[1], x->len[1],
                                 at[2], x->len[2]);
@@ -106,15 +112,16 @@ static void with_null(const struct trial *accepted, int which, int number)
     check(got == number, "%s, buffers %d NULL: %d, not %d", call_name[x.call], which, got, number);
 }
 
-/* Each buffer, and all: 1 for a sheet, otherwise 8; a lower number comes first. */
+/* Each buffer, and all: 1 for a sheet to be read and a header, otherwise 8; a
+   lower number comes first. */
 static void nulls(const struct trial *accepted)
 {
     struct trial low = *accepted;
-    int buffers = accepted->call == READ ? 2 : 3;
-    for (int which = 1; which < 1 << buffers; which++)
-        with_null(accepted, which, accepted->call == READ && which & 1 ? 1 : 8);
+    int by_1 = accepted->call == READ || accepted->call == SHEET_LEN || accepted->call == WRITE;
+    for (int which = 1; which < 1 << buffers[accepted->call]; which++)
+        with_null(accepted, which, by_1 && which & 1 ? 1 : 8);
     low.n = 0;
-    if (accepted->call != READ)
+    if (!by_1)
         with_null(&low, 7, 2);
 }
 
@@ -137,6 +144,41 @@ static void sheets(void)
         struct trial x = {.call = READ, .content = {sheet}, .len = {len, in->table_len}, .number = in->number};
         try_one(&x);
     }
+}
+
+/* 1 if the last sheet that was written is the one whose table was handed in. */
+static int as_made(size_t k)
+{
+    size_t len = make_sheet(sheet, k);
+    return memcmp(written[2], sheet, len) == 0;
+}
+
+static void writings(void)
+{
+    for (size_t i = 0; i < COUNT(write_inputs); i++) {
+        const struct write_input *in = &write_inputs[i];
+        make_sheet(sheet, in->k > 0);
+        make_table(table, in->k);
+        sheet[in->at] = in->byte;
+        struct trial x = {.call = WRITE, .content = {sheet, table}, .len = {in->header_len, in->table_len, in->sheet_len},
+                          .number = in->number};
+        try_one(&x);
+        x.call = SHEET_LEN;
+        x.len[2] = 0;
+        x.number = refused_by_sheet(in) ? 0 : in->number;
+        try_one(&x);
+        if (in->number == 0)
+            check(as_made(in->k), "vembopu_write: another sheet of %lu records", (unsigned long)in->k);
+    }
+}
+
+/* A table whose records are too many is 14 before its sheet's NULL is 8. */
+static void null_and_too_many(void)
+{
+    struct trial x = {.call = WRITE, .content = {sheet, table}, .len = {HEADER, TABLE, SHEET}};
+    make_sheet(sheet, 0);
+    make_table(table, MOST_RECORDS + 1);
+    with_null(&x, 4, 14);
 }
 
 static void rehearsals(void)
@@ -171,6 +213,8 @@ int main(void)
     for (size_t i = 0; i < INPUTS; i++)
         inputs[i] = (uint8_t)draw(2);
     sheets();
+    writings();
+    null_and_too_many();
     rehearsals();
     exchanges();
     return closing_count();

@@ -1,26 +1,27 @@
 /*
- * The calls on a whole line, in libexports.a: the reader of run sheets, the
- * rehearsal of a broadcast, the graded exchange had alone. A controller needs
- * none of them; the numbers of refusals are in vembopu.h.
+ * The calls on a whole line, in libexports.a: the reader and the writer of run
+ * sheets, the rehearsal of a broadcast, the graded exchange had alone. A
+ * controller needs none of them; the numbers of refusals are in vembopu.h.
  *
  * R = 3t + 6 is the number of rounds, vembopu_rounds(t). A table has the byte
  * for round r, from i, to j at ((r-1)*n + (i-1))*n + (j-1). In marks, bit i-1
  * is set if station i is marked, which is to say bad. An outcome is three bytes
  * a station: value, grade 0 to 2, flag 0 or 1; a bad station's are 255.
  *
- * Each call answers with the number of the refusal, 0 if accepted. Any content
- * may be handed in. A call reads nothing but its arguments and the bytes that
- * they point to, keeps nothing, and the same arguments always give the same
- * answer and the same bytes. It writes only what is said below; if it is
- * refused, every byte is as it was. It calls nothing but memcpy and memset,
- * which it takes from the C library.
+ * Each call answers with the number of the refusal, 0 if accepted;
+ * vembopu_sheet_len and vembopu_write in the upper 32 of 64 bits, as the
+ * station's calls do. Any content may be handed in. A call reads nothing but
+ * its arguments and the bytes that they point to, keeps nothing, and the same
+ * arguments always give the same answer and the same bytes. It writes only what
+ * is said below; if it is refused, every byte is as it was. It calls nothing
+ * but memcpy and memset, which it takes from the C library.
  *
  * A pointer has to point to as many bytes as its length says, which nobody else
  * writes during the call. It may be NULL only if that length is 0. No call
- * accepts a length of 0: a sheet of no bytes is refused by 1, any other buffer
- * by 8, if no lower number comes first. A buffer that is written must not
- * overlap another one, and nobody else reads it during the call; buffers that
- * are only read may overlap.
+ * accepts a length of 0: a header or a sheet to be read, of no bytes, is refused
+ * by 1, any other buffer by 8, if no other number comes first in the order said
+ * below. A buffer that is written must not overlap another one, and nobody else
+ * reads it during the call; buffers that are only read may overlap.
  */
 #ifndef VEMBOPU_EXPORTS_H
 #define VEMBOPU_EXPORTS_H
@@ -38,6 +39,8 @@ extern "C" {
  */
 enum {
     VEMBOPU_STACK_READ = 17152,
+    VEMBOPU_STACK_SHEET_LEN = 64,
+    VEMBOPU_STACK_WRITE = 256,
     VEMBOPU_STACK_REHEARSE = 1024,
     VEMBOPU_STACK_EXCHANGE = 3072
 };
@@ -61,6 +64,73 @@ enum {
  */
 uint8_t vembopu_read(const uint8_t *sheet, size_t sheet_len,
                      uint8_t *table, size_t table_len);
+
+/*
+ * The bytes of the sheet that vembopu_write makes of a header and a run table.
+ *
+ * header      n, t, upper, sender, value, 0, two bytes that are not looked at,
+ *             marks (four bytes). Only read.
+ * header_len  12
+ * table       a run table. Each byte of a marked sender that is not 255 is a
+ *             record; the bytes of unmarked senders have no effect. Only read.
+ * table_len   R*n*n, with the n and the t of the header
+ *
+ * Answers with 64 bits: in the upper 32 the number of the refusal, 0 if
+ * accepted; in the lower 32 the bytes, 12 + 8k for k records, 0 if refused.
+ * Refused: the lowest of 1, 2, 3, 4, 5, 6; then 8; then 14, if k is above
+ * 4,096.
+ */
+uint64_t vembopu_sheet_len(const uint8_t *header, size_t header_len,
+                           const uint8_t *table, size_t table_len);
+
+/*
+ * Writes the run sheet of a header and a run table. Its length is asked for
+ * first:
+ *
+ *     uint8_t sheet[32780];  the longest
+ *     uint64_t len = vembopu_sheet_len(header, 12, table, table_len);
+ *     uint64_t made = vembopu_write(header, 12, table, table_len, sheet,
+ *                                   vembopu_needed_bytes(len));
+ *
+ * Where the first is refused, the second is too, by the same number: to look at
+ * vembopu_refusal(made) is enough.
+ *
+ * header     and table, with their lengths, as for vembopu_sheet_len
+ * sheet      written: the header as it is handed in, but for the index of the
+ *            first record, which is 1, or 0 without records; then the records
+ *            in the table's order, by round, then from, then to, each with the
+ *            index of the next one, the last with 0
+ * sheet_len  what vembopu_sheet_len gives, 12 + 8k
+ *
+ * vembopu_read accepts what is written, and gives the table with 255 for every
+ * unmarked sender. To write the first 12 bytes of a sheet and the table that is
+ * read from it leaves out the records that are not chained and those of
+ * silence; to do so again changes nothing.
+ *
+ * Answers with 64 bits: in the upper 32 the number of the refusal, 0 if
+ * accepted; in the lower 32 the number of records, k, 0 if refused.
+ * Refused: as vembopu_sheet_len; after these, by 8, if sheet_len isn't 12 + 8k.
+ */
+uint64_t vembopu_write(const uint8_t *header, size_t header_len,
+                       const uint8_t *table, size_t table_len,
+                       uint8_t *sheet, size_t sheet_len);
+
+/* Of vembopu_sheet_len: the bytes that the sheet needs; 0 if refused. */
+static inline uint32_t vembopu_needed_bytes(uint64_t answer)
+{
+    if (vembopu_refusal(answer) != 0)
+        return 0;
+    return (uint32_t)(answer & 0xffffffffu);
+}
+
+/* Of vembopu_write: the records that are written; 0 if refused, and if there
+   are none. */
+static inline uint32_t vembopu_records(uint64_t answer)
+{
+    if (vembopu_refusal(answer) != 0)
+        return 0;
+    return (uint32_t)(answer & 0xffffffffu);
+}
 
 /*
  * Rehearses a broadcast.

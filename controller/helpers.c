@@ -1,21 +1,21 @@
 /*
- * The header's helpers on answers of every kind: refused by each number, running
- * in each round, done with each value and grade, every ballot; as the library
- * answers, and with any bytes below a refusal. Then the number of rounds, the
- * state of a refused open, and the version.
+ * The headers' helpers on answers of every kind: refused by each number, running
+ * in each round, done with each value and grade, every ballot, sheets of few
+ * and of many records; as the library answers, and with any bytes below a
+ * refusal. Then the number of rounds, the state of a refused open, and the
+ * version.
  */
 #define _DEFAULT_SOURCE
 #include "check.h"
+#include "exports.h"
+#include "inputs.h"
 #include "model.h"
-#include "vembopu.h"
-
-#include <string.h>
 
 #if VEMBOPU_VERSION_MAJOR != 1 || VEMBOPU_VERSION_MINOR < 0
 #error "the version's numbers are for #if too"
 #endif
 
-enum { NONE = 255, MOST_T = 10, NUMBERS = 14 };
+enum { NONE = 255, MOST_T = 10, NUMBERS = 15 };
 
 /* What the helpers make of an answer, but for the state. */
 struct parts {
@@ -54,7 +54,7 @@ static int undecided(uint64_t a)
 static int held_refused(uint64_t a, uint32_t number)
 {
     const struct parts want = {number, NONE, 0, 0, 0, NONE, NONE, NONE};
-    return held(a, want) && undecided(a);
+    return held(a, want) && undecided(a) && vembopu_needed_bytes(a) == 0 && vembopu_records(a) == 0;
 }
 
 /* ---- Refused ---- */
@@ -147,6 +147,35 @@ static void zero(void)
     check(held(0, want) && undecided(0), "an answer of zero");
 }
 
+/* ---- The writer ---- */
+
+static uint8_t header[HEADER], table[TABLE], sheet[SHEET];
+
+/* The bytes needed and the records of a table that has so many. */
+static void sheet_of(uint32_t k)
+{
+    uint32_t bytes = HEADER + RECORD * k;
+    make_table(table, k);
+    uint64_t len = vembopu_sheet_len(header, HEADER, table, TABLE);
+    uint64_t made = vembopu_write(header, HEADER, table, TABLE, sheet, bytes);
+    check(vembopu_refusal(len) == 0 && vembopu_needed_bytes(len) == bytes, "%u records: the bytes", k);
+    check(vembopu_refusal(made) == 0 && vembopu_records(made) == k, "%u records: their number", k);
+    made = vembopu_write(header, HEADER, table, TABLE, sheet, bytes - 1);
+    check(held_refused(made, 8), "%u records: a byte short", k);
+}
+
+static void sheets(void)
+{
+    static const uint32_t some[] = {0, 1, 2, 255, 256, 257, 1000, MOST_RECORDS - 1, MOST_RECORDS};
+    make_sheet(sheet, 0);
+    memcpy(header, sheet, HEADER);
+    for (size_t i = 0; i < COUNT(some); i++)
+        sheet_of(some[i]);
+    make_table(table, MOST_RECORDS + 1);
+    check(held_refused(vembopu_sheet_len(header, HEADER, table, TABLE), 14), "the bytes of too many");
+    check(held_refused(vembopu_write(header, HEADER, table, TABLE, sheet, SHEET), 14), "too many");
+}
+
 /* ---- A refused open's state ---- */
 
 static void refused_by(uint8_t n, uint8_t t, uint8_t T, uint8_t own, uint32_t state, uint32_t number)
@@ -204,6 +233,7 @@ int main(void)
     done();
     ballots();
     zero();
+    sheets();
     after_refused_open();
     number_of_rounds();
     version();

@@ -34,6 +34,14 @@ static inline size_t make_sheet(uint8_t *sheet, size_t k)
     return HEADER + RECORD * k;
 }
 
+/* The run table of that sheet. */
+static inline void make_table(uint8_t *table, size_t k)
+{
+    memset(table, 255, TABLE);
+    for (size_t i = 0; i < k; i++)
+        table[i] = (uint8_t)(i % 3);
+}
+
 /* A sheet of k records with the byte `at` changed, of some bytes more. */
 struct read_input {
     size_t k, at;
@@ -60,6 +68,42 @@ static const struct read_input read_inputs[] = {
     {MOST_RECORDS, 11, 127, 0, TABLE, 12},     /* station 32 unmarked */
     {MOST_RECORDS, LAST, 3, 0, TABLE, 13},     /* the last one's round, 3 */
 };
+
+/* The header of such a sheet with the byte `at` changed and the table of k
+   records; the number is vembopu_write's, vembopu_sheet_len has no sheet. */
+struct write_input {
+    size_t k, at;
+    uint8_t byte;
+    size_t header_len, table_len, sheet_len;
+    int number;
+};
+
+static const struct write_input write_inputs[] = {
+    {MOST_RECORDS, 0, 32, HEADER, TABLE, SHEET, 0},
+    {0, 6, 1, HEADER, TABLE, HEADER, 0},                          /* first index, none to write */
+    {1, 0, 32, HEADER, TABLE, HEADER + RECORD, 0},
+    {MOST_RECORDS, 7, 255, HEADER, TABLE, SHEET, 0},              /* first index above 4,096 */
+    {MOST_RECORDS, 0, 32, HEADER - 1, TABLE, SHEET, 1},
+    {MOST_RECORDS, 0, 32, HEADER + RECORD, TABLE, SHEET, 1},      /* a header and a record */
+    {MOST_RECORDS, 5, 1, HEADER, TABLE, SHEET, 1},                /* byte 5 */
+    {MOST_RECORDS, 0, 33, HEADER, TABLE, SHEET, 2},               /* n */
+    {MOST_RECORDS, 2, 11, HEADER, TABLE, SHEET, 3},               /* T */
+    {MOST_RECORDS, 3, 33, HEADER, TABLE, SHEET, 4},               /* sender */
+    {MOST_RECORDS, 4, 2, HEADER, TABLE, SHEET, 5},                /* value */
+    {MOST_RECORDS, 0, 31, HEADER, TABLE, SHEET, 6},               /* n below a marked station */
+    {MOST_RECORDS, 0, 32, HEADER, TABLE - 1, SHEET, 8},
+    {MOST_RECORDS + 1, 0, 32, HEADER, TABLE, SHEET, 14},
+    {MOST_RECORDS + 1, 0, 32, HEADER, TABLE, SHEET + RECORD, 14}, /* as long as they need */
+    {TABLE, 0, 32, HEADER, TABLE, SHEET, 14},                     /* every byte a record */
+    {MOST_RECORDS, 0, 32, HEADER, TABLE, SHEET - 1, 8},
+    {MOST_RECORDS - 1, 0, 32, HEADER, TABLE, SHEET, 8},           /* a record too long */
+};
+
+/* 1 if it is the sheet's length that is refused. */
+static inline int refused_by_sheet(const struct write_input *in)
+{
+    return in->number == 8 && in->table_len == TABLE;
+}
 
 struct rehearse_input {
     uint8_t n, t, T, sender, value;

@@ -11,7 +11,7 @@
 #include <stdio.h>
 #include <stdlib.h>
 
-static uint8_t sheet[SHEET], table[TABLE], logged[TABLE], outcomes[OUTCOMES], row[INPUTS];
+static uint8_t header[HEADER], sheet[SHEET], table[TABLE], logged[TABLE], outcomes[OUTCOMES], row[INPUTS];
 
 /* ---- By marks, or by the number of records ---- */
 
@@ -29,6 +29,39 @@ static uint32_t read_sheet(uint32_t k)
 {
     size_t len = make_sheet(sheet, k);
     return vembopu_read(sheet, len, table, TABLE);
+}
+
+enum { NONE_MARKED = 0xffff };
+
+/* The header and the table of a sheet to be written: the first ten stations
+   are marked, and k of their bytes are ballots; or none is marked. All that
+   has no effect is a ballot. Gives the sheet's length. */
+static size_t make_writing(uint32_t k)
+{
+    uint32_t left = k;
+    make_sheet(sheet, 0);
+    memcpy(header, sheet, HEADER);
+    memset(header + 8, 0, 4);
+    header[8] = k == NONE_MARKED ? 0 : 0xff;
+    header[9] = k == NONE_MARKED ? 0 : 0x03;
+    for (uint32_t at = 0; at < TABLE; at++) {
+        int of_ten = at / 32 % 32 < 10;
+        table[at] = of_ten && left == 0 ? 255 : 1;
+        left -= of_ten && left > 0;
+    }
+    return HEADER + RECORD * (k == NONE_MARKED ? 0 : k);
+}
+
+static uint32_t sheet_len(uint32_t k)
+{
+    make_writing(k);
+    return vembopu_refusal(vembopu_sheet_len(header, HEADER, table, TABLE));
+}
+
+static uint32_t write_sheet(uint32_t k)
+{
+    size_t len = make_writing(k);
+    return vembopu_refusal(vembopu_write(header, HEADER, table, TABLE, sheet, len));
 }
 
 /* ---- By the round, of king 1, which isn't the sender, at grade 0 ---- */
@@ -99,6 +132,12 @@ static const struct {
     {"vembopu_read", "1,024 records", 1024, "record", read_sheet, 1024},
     {"vembopu_read", "2,048 records", 2048, "record", read_sheet, 2048},
     {"vembopu_read", "4,096 records", 4096, "record", read_sheet, 4096},
+    {"vembopu_sheet_len", "none marked", TABLE, "byte", sheet_len, NONE_MARKED},
+    {"vembopu_sheet_len", "10 marked, no record", TABLE, "byte", sheet_len, 0},
+    {"vembopu_sheet_len", "10 marked, 4,096 records", TABLE, "byte", sheet_len, 4096},
+    {"vembopu_write", "none marked", TABLE, "byte", write_sheet, NONE_MARKED},
+    {"vembopu_write", "10 marked, no record", 0, "record", write_sheet, 0},
+    {"vembopu_write", "10 marked, 4,096 records", 4096, "record", write_sheet, 4096},
     {"vembopu_open", "before round 1", 1, "call", open_station, 0},
     EACH_ROUND("vembopu_ballot", ballot),
     EACH_ROUND("vembopu_advance", advance),

@@ -1,7 +1,7 @@
 /*
- * The four calls written once more, in C from document 01, for the tests: the
- * judgement, and the steps of a station that is accepted. Shares no code with
- * the library.
+ * The station's calls and the writer's written once more, in C from document 01
+ * and its request 1, for the tests: the judgement, the steps of a station that
+ * is accepted, and the sheet that is written. Shares no code with the library.
  */
 #ifndef MODEL_H
 #define MODEL_H
@@ -180,6 +180,111 @@ static inline uint64_t model_result(const struct call *c)
     if (c->round <= rounds(c->t))
         return answer(0, bytes4(0, c->round, 0, 0));
     return answer(0, bytes4(1, c->x, c->grade, c->grade < 2));
+}
+
+/* ---- The writer of run sheets: document 02, Ticket 1 ---- */
+
+/* What the writer is handed; vembopu_sheet_len has no sheet. */
+struct writing {
+    const uint8_t *header;
+    size_t header_len;
+    const uint8_t *table;
+    size_t table_len;
+    size_t sheet_len;
+};
+
+static inline int is_marked(const uint8_t *header, int station)
+{
+    return header[8 + (station - 1) / 8] >> (station - 1) % 8 & 1;
+}
+
+/* 1 to 6: "A header not of 12 bytes is 1", then as a sheet's. */
+static inline int judge_header(const uint8_t *header, size_t len)
+{
+    if (len != 12 || header[5] != 0)
+        return 1;
+    struct call c = {header[0], header[1], header[2], header[3], header[3], header[4], 0, 0, 0, 0, NULL, 0};
+    int number = judge_open(&c);
+    for (int i = c.n + 1; number == 0 && i <= 32; i++)
+        if (is_marked(header, i))
+            number = 6;
+    return number;
+}
+
+/* "one record for each byte of a marked sender that is not 255" */
+static inline int is_record(const struct writing *w, size_t place)
+{
+    size_t n = w->header[0];
+    return is_marked(w->header, (int)(place / n % n) + 1) && w->table[place] != 255;
+}
+
+static inline size_t records_of(const struct writing *w)
+{
+    size_t k = 0;
+    for (size_t place = 0; place < w->table_len; place++)
+        k += (size_t)is_record(w, place);
+    return k;
+}
+
+/* "by round, then from, then to, chained 1, 2, 3" */
+static inline void put_records(const struct writing *w, uint8_t *record)
+{
+    size_t n = w->header[0], k = records_of(w), index = 0;
+    for (size_t place = 0; place < w->table_len; place++) {
+        if (!is_record(w, place))
+            continue;
+        index++;
+        size_t next = index < k ? index + 1 : 0;
+        *record++ = (uint8_t)(place / n / n + 1);
+        *record++ = (uint8_t)(place / n % n + 1);
+        *record++ = (uint8_t)(place % n + 1);
+        *record++ = w->table[place];
+        *record++ = (uint8_t)(next % 256);
+        *record++ = (uint8_t)(next / 256);
+        *record++ = 0;
+        *record++ = 0;
+    }
+}
+
+/* "After the header's causes a table of wrong length is 8, then more than 4,096
+   records to write 14" */
+static inline int judge_sheet_len(const struct writing *w)
+{
+    int number = judge_header(w->header, w->header_len);
+    if (number != 0)
+        return number;
+    if (w->table_len != (size_t)(rounds(w->header[1]) * w->header[0] * w->header[0]))
+        return 8;
+    return records_of(w) > 4096 ? 14 : 0;
+}
+
+/* "then a sheet buffer not of the needed length 8" */
+static inline int judge_write(const struct writing *w)
+{
+    int number = judge_sheet_len(w);
+    if (number == 0 && w->sheet_len != 12 + 8 * records_of(w))
+        return 8;
+    return number;
+}
+
+static inline uint64_t model_sheet_len(const struct writing *w)
+{
+    int number = judge_sheet_len(w);
+    return answer(number, number ? 0 : (uint32_t)(12 + 8 * records_of(w)));
+}
+
+/* "none writes anything" */
+static inline uint64_t model_write(const struct writing *w, uint8_t *sheet)
+{
+    int number = judge_write(w);
+    if (number != 0)
+        return answer(number, 0);
+    for (int b = 0; b < 12; b++)
+        sheet[b] = w->header[b];
+    sheet[6] = records_of(w) > 0;
+    sheet[7] = 0;
+    put_records(w, sheet + 12);
+    return answer(0, (uint32_t)records_of(w));
 }
 
 #endif

@@ -77,6 +77,16 @@ static uint64_t run_read(struct arguments *a)
     return vembopu_read(BUFFER(a, 0), BUFFER(a, 1));
 }
 
+static uint64_t run_sheet_len(struct arguments *a)
+{
+    return vembopu_sheet_len(BUFFER(a, 0), BUFFER(a, 1));
+}
+
+static uint64_t run_write(struct arguments *a)
+{
+    return vembopu_write(BUFFER(a, 0), BUFFER(a, 1), BUFFER(a, 2));
+}
+
 static uint64_t run_rehearse(struct arguments *a)
 {
     return vembopu_rehearse(NUMBERS(a), a->marks, BUFFER(a, 0), BUFFER(a, 1), BUFFER(a, 2));
@@ -101,11 +111,13 @@ static const struct call {
     {"vembopu_result", run_result, 9, 5, 0, {3, 4}, {0, 0}},
     {"vembopu_advance_lent", run_advance_lent, 9, 0, 1, {0, 0}, {0, 0}},
     {"vembopu_read", run_read, 0, 0, 2, {0, 0}, {0, 0}},
+    {"vembopu_sheet_len", run_sheet_len, 0, 0, 2, {0, 0}, {0, 0}},
+    {"vembopu_write", run_write, 0, 0, 3, {0, 0}, {0, 0}},
     {"vembopu_rehearse", run_rehearse, 5, 0, 3, {0, 0}, {0, 1}},
     {"vembopu_exchange", run_exchange, 3, 0, 3, {0, 0}, {0, 0}},
 };
 
-enum { OPEN, BALLOT, ADVANCE, RESULT, ADVANCE_LENT, READ, REHEARSE, EXCHANGE, CALLS };
+enum { OPEN, BALLOT, ADVANCE, RESULT, ADVANCE_LENT, READ, SHEET_LEN, WRITE, REHEARSE, EXCHANGE, CALLS };
 
 /* ---- The examples ---- */
 
@@ -138,6 +150,8 @@ static const uint8_t b_sheet[] = {
 };
 static const uint8_t b_read[] = {TO_ALL(255), TO_ALL(255), TO_ALL(255), LIAR, FIVE(SILENT)};
 static const uint8_t b_table[] = {TO_ALL(9), TO_ALL(9), TO_ALL(9), LIAR, FIVE(NO_EFFECT)};
+/* Its header with another first index: written with that table, it is the sheet. */
+static const uint8_t b_header[] = {4, 0, 1, 4, 0, 0, 77, 88, 8, 0, 0, 0};
 /* x is 1, 0, 0; z blank, 0, 0; two zeros are grade 0, y 0; the king, station 1,
    sends 0; then three zeros are grade 1. */
 static const uint8_t b_log[] = {TO_ALL(255), TO_ALL(255), TO_ALL(255), LIAR, ROUND(1, 0, 0, 255),
@@ -183,6 +197,11 @@ static const struct example examples[] = {
     {.call = RESULT, .byte = {16, 2, 5, 9, 7, 5, 1, 2, 0}, .answer = 0x00000500u},
     {.call = RESULT, .byte = {16, 2, 5, 9, 7, 13, 0, 2, 1}, .answer = 0x01010001u},
     {.call = READ, .before = {b_sheet}, .len = {sizeof b_sheet, sizeof b_read}, .after = {NULL, b_read}},
+    {.call = SHEET_LEN, .before = {b_header, b_table}, .len = {sizeof b_header, sizeof b_table},
+     .answer = sizeof b_sheet},
+    /* three records */
+    {.call = WRITE, .before = {b_header, b_table}, .len = {sizeof b_header, sizeof b_table, sizeof b_sheet}, .answer = 3,
+     .after = {NULL, NULL, b_sheet}},
     {.call = REHEARSE, .byte = {4, 0, 1, 4, 0}, .marks = 8, .before = {b_table},
      .len = {sizeof b_table, sizeof b_log, sizeof b_outcomes}, .after = {NULL, b_log, b_outcomes}},
     {.call = REHEARSE, .byte = {4, 0, 1, 3, 1}, .marks = 0, .before = {good_table},
@@ -363,15 +382,15 @@ static void offsets(void)
           (unsigned long)sizeof(struct vembopu_station));
 }
 
-/* Each name of a refusal is document 01's number. */
+/* Each name of a refusal is its number in document 01 or 02. */
 static void numbers(void)
 {
     static const int named[] = {VEMBOPU_ACCEPTED,        VEMBOPU_BAD_SHEET,     VEMBOPU_BAD_N,
                                 VEMBOPU_BAD_THRESHOLDS,  VEMBOPU_BAD_NUMBER,    VEMBOPU_BAD_VALUE,
                                 VEMBOPU_BAD_MARKS,       VEMBOPU_BAD_STATE,     VEMBOPU_BAD_LENGTH,
                                 VEMBOPU_CHAIN_LEAVES,    VEMBOPU_CHAIN_REPEATS, VEMBOPU_BAD_RECORD,
-                                VEMBOPU_UNMARKED_SENDER, VEMBOPU_DUPLICATE};
-    for (int k = 0; k < 14; k++)
+                                VEMBOPU_UNMARKED_SENDER, VEMBOPU_DUPLICATE,     VEMBOPU_TOO_MANY_RECORDS};
+    for (int k = 0; k < 15; k++)
         check(named[k] == k, "the name of refusal %d is %d", k, named[k]);
 }
 

@@ -13,7 +13,7 @@
 
 enum { OPEN = 1, BALLOT = 2, ADVANCE = 4, LENT = 8, RESULT = 16 };
 enum { TAKES_ROW = ADVANCE | LENT, HAS_STATE = BALLOT | TAKES_ROW | RESULT, ALL = OPEN | HAS_STATE };
-enum { CALLS = 5, LONGEST_ROW = 300, BLOCK = 10000, BLOCKS = 10, NUMBERS = 14 };
+enum { CALLS = 5, LONGEST_ROW = 300, BLOCK = 10000, BLOCKS = 10, NUMBERS = 15 };
 
 static const char *const call_name[CALLS] = {"open", "ballot", "advance", "advance_lent", "result"};
 static uint8_t some_row[LONGEST_ROW];
@@ -21,7 +21,7 @@ static uint8_t some_row[LONGEST_ROW];
 /* ---- The lent station ---- */
 
 /* What the lent call is said to answer if it writes what it must not. */
-enum { NUMBERS_WRITTEN = 14, WRITTEN_BESIDE = 15, OTHER_AT_END = 16, OTHER_READ_ONLY = 17 };
+enum { NUMBERS_WRITTEN = 15, WRITTEN_BESIDE = 16, OTHER_AT_END = 17, OTHER_READ_ONLY = 18 };
 
 static struct guarded lent_page;
 static uint8_t *untouched; /* a copy of the page */

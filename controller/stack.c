@@ -65,9 +65,10 @@ static void nothing(void)
 static struct call c;
 static struct vembopu_station lent, lent_before;
 static const struct read_input *reading;
+static const struct write_input *writing;
 static const struct rehearse_input *rehearsing;
 static const struct exchange_input *exchanging;
-static uint8_t row[INPUTS], sheet[SHEET + RECORD], table[TABLE], logged[TABLE], outcomes[OUTCOMES];
+static uint8_t row[INPUTS], header[HEADER + RECORD], sheet[SHEET + RECORD], table[TABLE], logged[TABLE], outcomes[OUTCOMES];
 static size_t sheet_len;
 static uint32_t number; /* what the call is answered by */
 
@@ -104,6 +105,17 @@ static void read_sheet(void)
     number = vembopu_read(sheet, sheet_len, table, reading->table_len);
 }
 
+static void sheet_bytes(void)
+{
+    number = vembopu_refusal(vembopu_sheet_len(header, writing->header_len, table, writing->table_len));
+}
+
+static void write_sheet(void)
+{
+    const struct write_input *i = writing;
+    number = vembopu_refusal(vembopu_write(header, i->header_len, table, i->table_len, sheet, i->sheet_len));
+}
+
 static void rehearse(void)
 {
     const struct rehearse_input *i = rehearsing;
@@ -130,11 +142,13 @@ static struct measured {
     {"vembopu_result", result, VEMBOPU_STACK_RESULT, 0, 0, 0, 0},
     {"vembopu_advance_lent", advance_lent, VEMBOPU_STACK_ADVANCE_LENT, 0, 0, 0, 0},
     {"vembopu_read", read_sheet, VEMBOPU_STACK_READ, 0, 0, 0, 0},
+    {"vembopu_sheet_len", sheet_bytes, VEMBOPU_STACK_SHEET_LEN, 0, 0, 0, 0},
+    {"vembopu_write", write_sheet, VEMBOPU_STACK_WRITE, 0, 0, 0, 0},
     {"vembopu_rehearse", rehearse, VEMBOPU_STACK_REHEARSE, 0, 0, 0, 0},
     {"vembopu_exchange", exchange, VEMBOPU_STACK_EXCHANGE, 0, 0, 0, 0},
 };
 
-enum { OPEN, BALLOT, ADVANCE, RESULT, LENT, READ, REHEARSE, EXCHANGE };
+enum { OPEN, BALLOT, ADVANCE, RESULT, LENT, READ, SHEET_LEN, WRITE, REHEARSE, EXCHANGE };
 
 /* ---- Measuring ---- */
 
@@ -198,6 +212,19 @@ static void sheets(void)
     }
 }
 
+static void writings(void)
+{
+    for (size_t i = 0; i < COUNT(write_inputs); i++) {
+        writing = &write_inputs[i];
+        make_sheet(sheet, 1);
+        memcpy(header, sheet, sizeof header);
+        header[writing->at] = writing->byte;
+        make_table(table, writing->k);
+        measure(WRITE, writing->number);
+        measure(SHEET_LEN, refused_by_sheet(writing) ? 0 : writing->number);
+    }
+}
+
 static void rehearsals(void)
 {
     memset(table, 1, sizeof table);
@@ -231,6 +258,7 @@ int main(void)
 {
     stations();
     sheets();
+    writings();
     rehearsals();
     exchanges();
     for (size_t i = 0; i < COUNT(calls); i++)

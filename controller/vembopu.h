@@ -64,8 +64,8 @@
  * take them and the headers from one version.
  */
 #define VEMBOPU_VERSION_MAJOR 1
-#define VEMBOPU_VERSION_MINOR 0
-#define VEMBOPU_VERSION "1.0"
+#define VEMBOPU_VERSION_MINOR 1
+#define VEMBOPU_VERSION "1.1"
 
 #ifdef __cplusplus
 extern "C" {
@@ -86,13 +86,15 @@ static inline int vembopu_rounds(uint8_t t)
 }
 
 /*
- * Why a call is refused, by document 01's numbers. A station's calls give 2, 3,
- * 4, 5, 7 and 8; the others are given by the calls of exports.h.
+ * Why a call is refused, by the numbers of document 01 and of its requests. A
+ * station's calls give 2, 3, 4, 5, 7 and 8; the others are given by the calls
+ * of exports.h.
  */
 enum {
     VEMBOPU_ACCEPTED = 0,
     VEMBOPU_BAD_SHEET = 1,        /* sheet_len not 12 + 8k with k from 0 to
-                                     4,096, or byte 5 not zero */
+                                     4,096, a header to be written not of 12
+                                     bytes, or byte 5 not zero */
     VEMBOPU_BAD_N = 2,            /* n outside 1 to 32 */
     VEMBOPU_BAD_THRESHOLDS = 3,   /* t above upper, or t + 2*upper not
                                      below n */
@@ -103,15 +105,18 @@ enum {
     VEMBOPU_BAD_STATE = 7,        /* round outside 1 to R + 1, value above 1, z
                                      or grade above 2; or a ballot or row wanted
                                      of a done station */
-    VEMBOPU_BAD_LENGTH = 8,       /* a row, table, log, outcomes or inputs not
-                                     of its exact length */
+    VEMBOPU_BAD_LENGTH = 8,       /* a row, table, log, outcomes, inputs or
+                                     sheet to be written not of its exact
+                                     length */
     VEMBOPU_CHAIN_LEAVES = 9,     /* the chain reaches an index above k */
     VEMBOPU_CHAIN_REPEATS = 10,   /* the chain reaches a record again */
     VEMBOPU_BAD_RECORD = 11,      /* round outside 1 to R, a station outside 1
                                      to n, or its last two bytes not zero */
     VEMBOPU_UNMARKED_SENDER = 12, /* a record's from is not marked */
-    VEMBOPU_DUPLICATE = 13        /* an earlier chained record has the same
+    VEMBOPU_DUPLICATE = 13,       /* an earlier chained record has the same
                                      round, from and to */
+    VEMBOPU_TOO_MANY_RECORDS = 14 /* more than 4,096 records are to be
+                                     written */
 };
 
 /*
@@ -263,7 +268,8 @@ static inline uint32_t vembopu_state_of(const struct vembopu_station *s)
  * the calls that it names: an accepted open's would pass for a done result.
  */
 
-/* Of any call on numbers: the refusal number, 0 if accepted. Ask this first. */
+/* Of any call on numbers, and of vembopu_sheet_len and vembopu_write: the
+   refusal number, 0 if accepted. Ask this first. */
 static inline uint32_t vembopu_refusal(uint64_t answer)
 {
     return (uint32_t)(answer >> 32);

@@ -1,0 +1,391 @@
+/*
+ * The writer of run sheets through C: every refusal of vembopu_sheet_len and
+ * vembopu_write, alone and in pairs; headers and tables by lot against the
+ * writer written once more (model.h); what is written is read back, and written
+ * again. Every buffer ends where a page begins that can't be touched; what is
+ * only read, and in a refused call the sheet too, stands on pages that can only
+ * be read.
+ */
+#define _DEFAULT_SOURCE
+#include "check.h"
+#include "exports.h"
+#include "inputs.h"
+#include "model.h"
+
+enum { LONGEST_HEADER = HEADER + RECORD, LONGEST_SHEET = SHEET + RECORD, LONGEST_TABLE = TABLE + 1 };
+enum { UNWRITTEN = 170, BLOCK = 1000, BLOCKS = 12, NUMBERS = 15 };
+
+/* ---- One call ---- */
+
+static struct guarded header_area, table_area, sheet_area;
+static uint8_t wanted[LONGEST_SHEET];
+
+/* The bytes at the end of their pages, which can only be read then. */
+static const uint8_t *lay(struct guarded g, const uint8_t *bytes, size_t len)
+{
+    uint8_t *at = g.page + g.size - len;
+    if (bytes == NULL)
+        return NULL;
+    mprotect(g.page, g.size, PROT_READ | PROT_WRITE);
+    memcpy(at, bytes, len);
+    mprotect(g.page, g.size, PROT_READ);
+    return at;
+}
+
+/* The sheet's place, unwritten, on pages that can be written only if asked. */
+static uint8_t *lay_sheet(size_t len, int writable)
+{
+    struct guarded g = sheet_area;
+    mprotect(g.page, g.size, PROT_READ | PROT_WRITE);
+    memset(g.page, UNWRITTEN, g.size);
+    if (!writable)
+        mprotect(g.page, g.size, PROT_READ);
+    return len == 0 ? NULL : g.page + g.size - len;
+}
+
+/* 1 if the sheet has these bytes and nothing is written before it. */
+static int written_as(const uint8_t *bytes, size_t len)
+{
+    const uint8_t *end = sheet_area.page + sheet_area.size - len;
+    int same = memcmp(end, bytes, len) == 0;
+    for (const uint8_t *p = sheet_area.page; p < end; p++)
+        same = same && *p == UNWRITTEN;
+    return same;
+}
+
+static int told(const char *name, const struct writing *w, uint64_t got, uint64_t want)
+{
+    static int times;
+    if (times++ < MOST_TOLD)
+        printf("%s, header of %lu, n %d t %d T %d, table of %lu, sheet of %lu: %llx, not %llx, or other bytes\n", name,
+               (unsigned long)w->header_len, w->header ? w->header[0] : -1, w->header ? w->header[1] : -1,
+               w->header ? w->header[2] : -1, (unsigned long)w->table_len, (unsigned long)w->sheet_len,
+               (unsigned long long)got, (unsigned long long)want);
+    return 0;
+}
+
+/* 1 if both calls answer, and the second writes, as the model. */
+static int agrees(const struct writing *w)
+{
+    const uint8_t *header = lay(header_area, w->header, w->header_len);
+    const uint8_t *table = lay(table_area, w->table, w->table_len);
+    memset(wanted, UNWRITTEN, sizeof wanted);
+    uint64_t want_len = model_sheet_len(w), want = model_write(w, wanted);
+    uint8_t *sheet = lay_sheet(w->sheet_len, vembopu_refusal(want) == 0);
+    uint64_t len = vembopu_sheet_len(header, w->header_len, table, w->table_len);
+    uint64_t got = vembopu_write(header, w->header_len, table, w->table_len, sheet, w->sheet_len);
+    if (len != want_len)
+        return told("vembopu_sheet_len", w, len, want_len);
+    if (got != want || !written_as(wanted, w->sheet_len))
+        return told("vembopu_write", w, got, want);
+    return 1;
+}
+
+/* ---- Each cause, and each pair ---- */
+
+/* A writing with its bytes, and the one that faults are laid into. */
+struct draft {
+    uint8_t header[LONGEST_HEADER];
+    uint8_t table[LONGEST_TABLE];
+    struct writing w;
+};
+
+static struct draft base, one, two;
+
+/* What is NULL stays so. */
+static void copy(struct draft *to, const struct draft *from)
+{
+    *to = *from;
+    to->w.header = from->w.header == NULL ? NULL : to->header;
+    to->w.table = from->w.table == NULL ? NULL : to->table;
+}
+
+/* The byte above; 255 + 1 is 0. */
+static uint8_t after(uint8_t byte)
+{
+    return (uint8_t)(byte + 1);
+}
+
+/* A record more: the first byte of silence gets a ballot. */
+static void add_record(struct draft *d)
+{
+    uint8_t *silent = memchr(d->table, 255, TABLE);
+    if (silent != NULL)
+        *silent = 1;
+}
+
+#define FAULT(name, statement)        \
+    static void name(struct draft *d) \
+    {                                 \
+        statement;                    \
+    }
+
+FAULT(header_short, d->w.header_len = HEADER - 1)
+FAULT(header_sheet, d->w.header_len = HEADER + RECORD)
+FAULT(header_null, d->w.header = NULL; d->w.header_len = 0)
+FAULT(byte_5, d->header[5] = 1)
+FAULT(byte_5_255, d->header[5] = 255)
+FAULT(n_0, d->header[0] = 0)
+FAULT(n_33, d->header[0] = 33)
+FAULT(n_255, d->header[0] = 255)
+FAULT(t_above, d->header[1] = after(d->header[2]))
+FAULT(sum_is_n, d->header[1] = d->header[0] % 2; d->header[2] = d->header[0] / 2)
+FAULT(sum_256, d->header[1] = 2; d->header[2] = 127)
+FAULT(sum_512, d->header[1] = 170; d->header[2] = 171)
+FAULT(sender_0, d->header[3] = 0)
+FAULT(sender_above, d->header[3] = after(d->header[0]))
+FAULT(value_2, d->header[4] = 2)
+FAULT(value_255, d->header[4] = 255)
+FAULT(mark_above, d->header[8 + base.header[0] / 8] |= (uint8_t)(1 << base.header[0] % 8))
+FAULT(mark_32, d->header[11] |= 128)
+FAULT(table_short, d->w.table_len = base.w.table_len - 1)
+FAULT(table_long, d->w.table_len = base.w.table_len + 1)
+FAULT(table_null, d->w.table = NULL; d->w.table_len = 0)
+FAULT(record_more, add_record(d))
+FAULT(sheet_short, d->w.sheet_len = base.w.sheet_len - 1)
+FAULT(sheet_long, d->w.sheet_len = base.w.sheet_len + 1)
+FAULT(sheet_record, d->w.sheet_len = base.w.sheet_len + RECORD)
+FAULT(sheet_null, d->w.sheet_len = 0)
+
+/* In the order of refusals; which lines each is for. */
+enum { ANY, BELOW_32, FULL };
+
+static const struct fault {
+    const char *what;
+    int number, lines;
+    void (*make)(struct draft *);
+} faults[] = {
+    {"header of 11", 1, ANY, header_short},
+    {"header of 20", 1, ANY, header_sheet},
+    {"header NULL", 1, ANY, header_null},
+    {"byte 5 is 1", 1, ANY, byte_5},
+    {"byte 5 is 255", 1, ANY, byte_5_255},
+    {"n 0", 2, ANY, n_0},
+    {"n 33", 2, ANY, n_33},
+    {"n 255", 2, ANY, n_255},
+    {"t above T", 3, ANY, t_above},
+    {"t + 2T = n", 3, ANY, sum_is_n},
+    {"t + 2T = 256", 3, ANY, sum_256},
+    {"t + 2T = 512", 3, ANY, sum_512},
+    {"sender 0", 4, ANY, sender_0},
+    {"sender n+1", 4, ANY, sender_above},
+    {"value 2", 5, ANY, value_2},
+    {"value 255", 5, ANY, value_255},
+    {"a mark at n+1", 6, BELOW_32, mark_above},
+    {"a mark at 32", 6, BELOW_32, mark_32},
+    {"table short", 8, ANY, table_short},
+    {"table long", 8, ANY, table_long},
+    {"table NULL", 8, ANY, table_null},
+    {"4,097 records", 14, FULL, record_more},
+    {"sheet short", 8, ANY, sheet_short},
+    {"sheet long", 8, ANY, sheet_long},
+    {"sheet a record longer", 8, ANY, sheet_record},
+    {"sheet NULL", 8, ANY, sheet_null},
+};
+
+/* A table of `k` ballots where all stations are marked, and its needed sheet. */
+static void make_base(uint8_t n, uint8_t t, uint8_t T, size_t k)
+{
+    static const uint8_t header[HEADER] = {0, 0, 0, 1, 1, 0, 255, 255, 0, 0, 0, 0};
+    memset(&base, 0, sizeof base);
+    memcpy(base.header, header, HEADER);
+    base.header[0] = n;
+    base.header[1] = t;
+    base.header[2] = T;
+    for (int i = 0; i < n; i++)
+        base.header[8 + i / 8] |= (uint8_t)(1 << i % 8);
+    make_table(base.table, k);
+    struct writing w = {base.header, HEADER, base.table, (size_t)rounds(t) * n * n, HEADER + RECORD * k};
+    base.w = w;
+}
+
+static int is_for(const struct fault *f)
+{
+    int full = base.w.sheet_len == SHEET, below_32 = base.header[0] < 32;
+    return f->lines == ANY || (f->lines == BELOW_32 ? below_32 : full);
+}
+
+/* The number that document 02 gives, of the model first. */
+static void refused(const struct draft *d, const struct fault *a, const char *b)
+{
+    int number = (int)vembopu_refusal(model_write(&d->w, wanted));
+    check(number == a->number, "n %d, %s, %s: the model gives %d, not %d", base.header[0], a->what, b, number, a->number);
+    check(agrees(&d->w), "n %d, %s, %s", base.header[0], a->what, b);
+}
+
+static void faults_of(const struct fault *a)
+{
+    copy(&one, &base);
+    a->make(&one);
+    refused(&one, a, "alone");
+    for (const struct fault *b = a + 1; b < faults + COUNT(faults); b++) {
+        if (!is_for(b))
+            continue;
+        copy(&two, &one);
+        b->make(&two);
+        refused(&two, a, b->what);
+    }
+}
+
+static void all_faults(void)
+{
+    static const struct {
+        uint8_t n, t, T;
+        size_t k;
+    } lines[] = {{1, 0, 0, 0}, {4, 1, 1, 77}, {31, 10, 10, 3000}, {32, 10, 10, MOST_RECORDS}, {32, 0, 15, 1}};
+    for (size_t i = 0; i < COUNT(lines); i++) {
+        make_base(lines[i].n, lines[i].t, lines[i].T, lines[i].k);
+        check(vembopu_refusal(model_write(&base.w, wanted)) == 0 && agrees(&base.w), "n %d: refused", lines[i].n);
+        for (const struct fault *a = faults; a < faults + COUNT(faults); a++)
+            if (is_for(a))
+                faults_of(a);
+    }
+}
+
+/* ---- Read back ---- */
+
+static uint8_t read_table[TABLE], first[SHEET], second[SHEET];
+
+/* By the header's own way: the length is asked for, then that many bytes are
+   written. A length that is refused has the writer refused by the same number. */
+static int write_asked(const struct writing *w, uint8_t *to, uint64_t *made)
+{
+    uint64_t len = vembopu_sheet_len(w->header, w->header_len, w->table, w->table_len);
+    *made = vembopu_write(w->header, w->header_len, w->table, w->table_len, to, vembopu_needed_bytes(len));
+    return vembopu_refusal(*made) == vembopu_refusal(len);
+}
+
+/* 1 if the table that was read is the one that was written, with 255 for every
+   unmarked sender. */
+static int same_table(const struct writing *w)
+{
+    size_t n = w->header[0];
+    int same = 1;
+    for (size_t place = 0; place < w->table_len; place++) {
+        int marked = is_marked(w->header, (int)(place / n % n) + 1);
+        same = same && read_table[place] == (marked ? w->table[place] : 255);
+    }
+    return same;
+}
+
+/* 1 if what is written is read with the header's numbers and the table, and
+   written again byte for byte; also if nothing is written. */
+static int reads_back(const struct writing *w)
+{
+    uint64_t made, again;
+    int same = write_asked(w, first, &made);
+    if (vembopu_refusal(made) != 0)
+        return same;
+    size_t len = HEADER + RECORD * vembopu_records(made);
+    same = same && vembopu_read(first, len, read_table, w->table_len) == 0 && same_table(w);
+    same = same && memcmp(first, w->header, 6) == 0 && memcmp(first + 8, w->header + 8, 4) == 0;
+    struct writing back = {first, HEADER, read_table, w->table_len, len};
+    return same && write_asked(&back, second, &again) && again == made && memcmp(first, second, len) == 0;
+}
+
+/* ---- By lot ---- */
+
+static unsigned long met[2][NUMBERS];
+
+/* Mostly an accepted line; else any bytes. */
+static void draw_numbers(uint8_t *header)
+{
+    for (int i = 0; i < LONGEST_HEADER; i++)
+        header[i] = (uint8_t)draw(256);
+    if (draw(16) == 0)
+        return;
+    uint32_t n = 1 + draw(32), T = draw((n + 1) / 2), rest = n - 1 - 2 * T;
+    header[0] = (uint8_t)(draw(24) == 0 ? draw(2) * 33 : n);
+    header[1] = (uint8_t)draw((rest < T ? rest : T) + 1 + (draw(16) == 0));
+    header[2] = (uint8_t)T;
+    header[3] = (uint8_t)(draw(16) == 0 ? draw(256) : 1 + draw(n));
+    header[4] = (uint8_t)(draw(16) == 0 ? draw(256) : draw(2));
+    header[5] = (uint8_t)(draw(16) == 0 ? draw(256) : 0);
+}
+
+/* None, some, most or all of the stations; a mark beyond n now and then. */
+static void draw_marks(uint8_t *header)
+{
+    const uint32_t kinds[] = {0, draw_word() & draw_word(), draw_word() | draw_word(), 0xffffffffu};
+    uint32_t marks = kinds[draw(4)];
+    if (header[0] < 32 && draw(16) != 0)
+        marks &= ((uint32_t)1 << header[0]) - 1;
+    for (int i = 0; i < 4; i++)
+        header[8 + i] = (uint8_t)(marks >> 8 * i & 255);
+}
+
+/* Any bytes, ballots, or silence with a ballot here and there. */
+static void draw_table(struct draft *d)
+{
+    static const uint8_t ballot[] = {0, 1, 2, 255};
+    size_t exact = (size_t)rounds(d->header[1]) * d->header[0] * d->header[0], other[] = {exact + 1, exact - 1, draw(300)};
+    uint32_t kind = draw(3);
+    size_t len = draw(16) == 0 ? other[draw(3)] : exact;
+    d->w.table = d->table;
+    d->w.table_len = len > LONGEST_TABLE ? LONGEST_TABLE : len;
+    for (size_t i = 0; i < d->w.table_len; i++)
+        d->table[i] = (uint8_t)(kind == 0 ? draw(256) : kind == 1 ? ballot[draw(4)] : draw(30) == 0 ? draw(256) : 255);
+}
+
+/* Mostly what is needed; else near it, or a header's. */
+static void draw_lengths(struct draft *d)
+{
+    size_t needed = vembopu_needed_bytes(model_sheet_len(&d->w));
+    const size_t near[] = {needed + 1, needed + RECORD, needed > RECORD ? needed - RECORD : 1, needed > 0 ? needed - 1 : 1,
+                           HEADER, SHEET};
+    d->w.sheet_len = draw(8) == 0 ? near[draw(6)] : needed;
+}
+
+static void draw_draft(struct draft *d)
+{
+    draw_numbers(d->header);
+    draw_marks(d->header);
+    d->w.header = d->header;
+    d->w.header_len = draw(24) == 0 ? draw(LONGEST_HEADER + 1) : HEADER;
+    draw_table(d);
+    draw_lengths(d);
+}
+
+static void block(void)
+{
+    unsigned long differ = 0, lost = 0;
+    for (int i = 0; i < BLOCK; i++) {
+        draw_draft(&one);
+        differ += !agrees(&one.w);
+        lost += !reads_back(&one.w);
+        met[0][vembopu_refusal(model_sheet_len(&one.w)) % NUMBERS]++;
+        met[1][vembopu_refusal(model_write(&one.w, wanted)) % NUMBERS]++;
+    }
+    check(differ == 0, "by lot: %lu differ", differ);
+    check(lost == 0, "by lot: %lu are not read back, or not written again", lost);
+}
+
+/* Each number that the calls can give was met, and no other. */
+static void all_met(void)
+{
+    static const char *const name[] = {"vembopu_sheet_len", "vembopu_write"};
+    for (int call = 0; call < 2; call++) {
+        char line[256] = "", list[64] = "";
+        for (int k = 0; k < NUMBERS; k++) {
+            if (met[call][k] == 0)
+                continue;
+            sprintf(list + strlen(list), "%s%d", *list ? " " : "", k);
+            sprintf(line + strlen(line), "  %d: %lu", k, met[call][k]);
+        }
+        printf("%s by lot, answers by number:%s\n", name[call], line);
+        check(strcmp(list, "0 1 2 3 4 5 6 8 14") == 0, "%s by lot: numbers %s", name[call], list);
+    }
+}
+
+int main(void)
+{
+    header_area = guarded_page();
+    table_area = guarded_pages(LONGEST_TABLE);
+    sheet_area = guarded_pages(LONGEST_SHEET);
+    all_faults();
+    printf("causes alone and in pairs: %lu tests\n", passed + failed);
+    for (int i = 0; i < BLOCKS; i++)
+        block();
+    all_met();
+    return closing_count();
+}
