@@ -19,7 +19,8 @@ from counting import built, closing
 
 TOP = pathlib.Path(__file__).resolve().parent.parent
 AGREE, LISTING = TOP / "examples" / "a.sheet", (TOP / "examples" / "a.listing").read_bytes()
-COMMANDS = "agree", "sheet", "text", "draw"
+UNTIDY, TIDY = TOP / "examples" / "untidy.sheet", (TOP / "examples" / "tidy.sheet").read_bytes()
+COMMANDS = "agree", "rewrite", "sheet", "text", "draw"
 # a command that hasn't ended after so many seconds hangs
 HANGS = 600
 
@@ -64,6 +65,9 @@ def inputs(folder):
     yield "standard input as -", Ran("agree", "-", input=AGREE.read_bytes()).gives(0, LISTING)
     yield "a pipe by its name", in_shell(f"./agree <(cat '{AGREE}')").stdout == LISTING
     yield "a name with signs in it", Ran("linked", "--", odd.name, top=folder).gives(0, LISTING)
+    yield "rewrite: a file", Ran("rewrite", UNTIDY).gives(0, TIDY)
+    yield "rewrite: standard input", Ran("rewrite", input=UNTIDY.read_bytes()).gives(0, TIDY)
+    yield "rewrite, then agree", in_shell(f"./rewrite '{UNTIDY}' | ./agree").stdout == (TOP / "examples" / "untidy.listing").read_bytes()
     yield "a sheet in a pipe that comes in two parts", in_shell(f"(head -c 5; sleep 0.3; cat) <'{AGREE}' | ./agree").stdout == LISTING
     odd.write_bytes(AGREE.read_bytes()[:11])
     yield "and what is said of it", Ran("linked", odd, top=folder).gives(1, b"refused 1\n", f"agree: {re.escape(str(odd))}: refused 1: .*\nagree: it has 11 bytes\n")
@@ -77,7 +81,7 @@ def refusals(folder):
         if listing.startswith(b"refused "):
             number = listing.split()[1].decode()
             file.write_bytes(sheet)
-            for command, out in ("agree", listing), ("text", b""), ("draw", b""):
+            for command, out in ("agree", listing), ("rewrite", listing), ("text", b""), ("draw", b""):
                 said = re.escape(f"{command}: {file}: refused {number}: {told[number]}\n{command}: it has {len(sheet)} bytes\n")
                 yield f"{command}, refused: {name}", Ran(command, file).gives(1, out, said)
     said = r"agree: examples/a.text: refused 1: .*\nagree: it looks like a text: ./sheet examples/a.text >line.sheet makes its run sheet\n"
@@ -92,7 +96,7 @@ def refusals(folder):
 def documented():
     rows = dict(re.findall(r"^\| (\d+) \| (.*) \|$", (TOP / "README.md").read_text(encoding="utf-8"), re.M))
     yield "README.md has the causes in the same words", rows == causes()
-    yield "as many causes as document 01 has", [int(number) for number in causes()] == list(range(1, 14))
+    yield "as many causes as document 01 has, and 14", [int(number) for number in causes()] == list(range(1, 15))
 
 
 # ---- trouble with the streams
@@ -123,10 +127,11 @@ def troubles(folder):
         yield f"{command}: no output", (done.returncode, done.stderr) == (2, f"{command}: standard output is closed\n".encode())
         with unready(sheet[:5]) as waits:
             yield f"{command}: an input that isn't ready after half a sheet", Ran(command, stdin=waits).gives(2, b"", f"{command}: standard input.*\n")
-    with unready(b"") as waits:
-        yield "an input that isn't ready", Ran("agree", stdin=waits).gives(2, b"", "agree: standard input could not be read\n")
-    with open("/dev/full", "wb") as full:
-        yield "a full output", Ran("agree", AGREE, stdout=full).gives(2, None, "agree: standard output: No space left on device\n")
+    for command in "agree", "rewrite":
+        with unready(b"") as waits:
+            yield f"{command}: an input that isn't ready", Ran(command, stdin=waits).gives(2, b"", f"{command}: standard input could not be read\n")
+        with open("/dev/full", "wb") as full:
+            yield f"{command}: a full output", Ran(command, AGREE, stdout=full).gives(2, None, f"{command}: standard output: No space left on device\n")
     yield "an output that nobody reads", in_shell(f"./agree '{AGREE}' | true; exit ${{PIPESTATUS[0]}}").returncode == 128 + signal.SIGPIPE
     yield "a file, and no input", in_shell(f"./agree '{AGREE}' <&-").stdout == LISTING
     yield "no standard error", in_shell(f"./agree '{AGREE}' 2>&-").stdout == LISTING
@@ -163,7 +168,7 @@ def uses():
         yield f"{command}: a terminal as input", status == 2 and re.fullmatch(said, shown.replace("\r\n", "\n"))
         with open("/dev/full", "wb") as full:
             yield f"{command} --help, a full output", Ran(command, "--help", stdout=full).gives(2, None, f"{command}: standard output can't be written\n")
-    for command, file, kept in ("sheet", "examples/a.text", "line.sheet"), ("draw", "examples/a.sheet", "line.svg"):
+    for command, file, kept in ("rewrite", "examples/a.sheet", "line.sheet"), ("sheet", "examples/a.text", "line.sheet"), ("draw", "examples/a.sheet", "line.svg"):
         status, shown = on_terminal([f"./{command}", file])
         said = f"{command}: a terminal can't show it: write it to a file, as in ./{command} {file} >{kept}\r\nusage: "
         yield f"{command}: a terminal as output", status == 2 and shown.startswith(said)
@@ -189,7 +194,7 @@ for crate in line broadcast sheet; do
     echo "rt: $crate proved (1 s)"
     [ "$RT_DOES" != told ] || until_there $k
 done
-mkdir -p target/bin && printf '%s\\n' '#!/bin/sh' 'cat >/dev/null; echo built' >target/bin/agree && chmod +x target/bin/agree
+mkdir -p target/bin && printf '%s\\n' '#!/bin/sh' "cat >/dev/null; echo $2 built" >"target/bin/$2" && chmod +x "target/bin/$2"
 """
 
 
@@ -202,7 +207,7 @@ class Copy:
         tools.mkdir()
         for part in "commands", "crates":
             shutil.copytree(TOP / part, self.top / part)
-        for part in "agree", "crates.txt":
+        for part in "agree", "rewrite", "crates.txt":
             shutil.copy(TOP / part, self.top / part)
         (tools / "rt").write_text(RT)
         (tools / "rt").chmod(0o755)
@@ -215,6 +220,9 @@ class Copy:
 
     def agree(self, **streams):
         return Ran("agree", AGREE, top=self.top, env=self.env, **streams)
+
+    def rewrite(self):
+        return Ran("rewrite", UNTIDY, top=self.top, env=self.env)
 
     def started(self, stderr):
         """The command in the background; what it makes goes to a file."""
@@ -265,17 +273,20 @@ def building(folder):
     status, said = copy.followed(*os.pipe())
     steps = ["agree: target/bin/agree isn't built yet: building, some minutes from nothing\n"]
     steps += [f"agree: {k} of {all_crates} crates proved\n" for k in (1, 2, 3)]
-    yield "the first use builds the program, and says how far it is", status == 0 and copy.made() == b"built\n" and all(step in said for step in steps)
+    yield "the first use builds the program, and says how far it is", status == 0 and copy.made() == b"agree built\n" and all(step in said for step in steps)
     yield "and what it has built", re.search(r"agree: built in \d+ s: [0-9a-f]{64}  target/bin/agree\n$", said)
     copy.env["RT_DOES"] = ""
-    yield "the second doesn't", copy.agree().gives(0, b"built\n") and copy.called() == ["check agree"]
+    yield "the second doesn't", copy.agree().gives(0, b"agree built\n") and copy.called() == ["check agree"]
     os.utime(copy.top / "crates" / "runs" / "stdin")
-    yield "nor where a crate has changed that it doesn't use", copy.agree().gives(0, b"built\n") and copy.called() == ["check agree"]
+    yield "nor where a crate has changed that it doesn't use", copy.agree().gives(0, b"agree built\n") and copy.called() == ["check agree"]
     os.utime(copy.top / "crates" / "line" / "src" / "lib.rt")
     again = copy.agree()
-    yield "a program older than its crates is built again", again.out == b"built\n" and "is older than its sources: " in again.said and len(copy.called()) == 2
+    yield "a program older than its crates is built again", again.out == b"agree built\n" and "is older than its sources: " in again.said and len(copy.called()) == 2
     (copy.top / "crates" / "layout" / "specs" / "Chain.antt").unlink()
-    yield "also where a file is gone", copy.agree().out == b"built\n" and len(copy.called()) == 3
+    yield "also where a file is gone", copy.agree().out == b"agree built\n" and len(copy.called()) == 3
+    rewritten = copy.rewrite()
+    yield "each program is built by its own command", rewritten.out == b"rewrite built\n" and copy.called()[3:] == ["check rewrite"]
+    yield "and told by its own name", rewritten.status == 0 and rewritten.said.startswith("rewrite: target/bin/rewrite isn't built yet: building, ")
     yield "nothing temporary is left", copy.left() == []
     copy = Copy(folder / "shown", "told")
     status, said = copy.followed(*pty.openpty())
@@ -371,10 +382,10 @@ def identified(folder):
     example = folder / "example"
     sums = Ran("build")
     done = subprocess.run(["sha256sum", "--check"], input=sums.out, cwd=TOP, capture_output=True)
-    yield "./build prints the sums of what it builds", sums.status == 0 and done.stdout.count(b": OK\n") == 4 == sums.out.count(b"\n")
+    yield "./build prints the sums of what it builds", sums.status == 0 and done.stdout.count(b": OK\n") == 5 == sums.out.count(b"\n")
     subprocess.run(["gcc", "-O2", "controller/example.c", "target/staticlib/libcontroller.a", "-o", example], cwd=TOP, check=True)
     subprocess.run(["strip", "-o", folder / "stripped", example], check=True)
-    for built_file in "bin/agree", "staticlib/libcontroller.a", "staticlib/liblent.a", "staticlib/libexports.a":
+    for built_file in "bin/agree", "bin/rewrite", "staticlib/libcontroller.a", "staticlib/liblent.a", "staticlib/libexports.a":
         said = f"target/{built_file}: target/{built_file} of this tree, to the byte\n"
         yield f"./identify of {built_file}", Ran("identify", f"target/{built_file}").gives(0, said.encode())
     calls = "vembopu_advance, vembopu_ballot, vembopu_open, vembopu_result"
@@ -390,9 +401,10 @@ def identified(folder):
     subprocess.run(["gcc", "-O2", "-c", "controller/example.c", "-o", folder / "named"], cwd=TOP, check=True)
     named = Ran("identify", folder / "named")
     yield "./identify of a file that only names the calls", named.status == 1 and named.out.endswith(b", and has no code of them as this tree builds it\n")
-    program = (TOP / "target" / "bin" / "agree").read_bytes()
-    other.write_bytes(with_other(program, program[-64:]))
-    yield "./identify of a changed agree", re.fullmatch(rb".*/other: neither agree nor a library of this tree, and none of their calls; its SHA-256 is [0-9a-f]{64}\n", Ran("identify", other).out)
+    for name in "agree", "rewrite":
+        program = (TOP / "target" / "bin" / name).read_bytes()
+        other.write_bytes(with_other(program, program[-64:]))
+        yield f"./identify of a changed {name}", re.fullmatch(rb".*/other: neither a program nor a library of this tree, and none of their calls; its SHA-256 is [0-9a-f]{64}\n", Ran("identify", other).out)
     yield "./identify of two files, one of them another's", Ran("identify", "target/bin/agree", other).status == 1
     yield "./identify of no file", Ran("identify", folder / "none").gives(2, b"", "identify: .*/none: No such file or directory\n")
     for command in "build", "identify":
@@ -426,4 +438,5 @@ def checks():
 
 
 if __name__ == "__main__":
-    sys.exit(not (built(TOP / "target" / "bin" / "agree") and Ran("draw", AGREE).status == 0 and closing(checks())))
+    programs = [TOP / "target" / "bin" / name for name in ("agree", "rewrite")]
+    sys.exit(not (all(map(built, programs)) and Ran("draw", AGREE).status == 0 and closing(checks())))

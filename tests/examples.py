@@ -2,9 +2,11 @@
 """The examples: run sheets, each with the text that it stands for and its listing.
 
 examples.py          writes the sheets and listings of examples/: document 01's cases A to D, a large run in which ten bad stations divide the good ones,
-                     and the longest listing. The texts are written by hand, the picture of case C by ./draw
-examples.py --check  holds each sheet to the one made here and to its text, its listing to the model's, and what the program prints to the listing; then
-                     some inputs of odd lengths. The last line is 'N passed, M failed'
+                     the longest listing, and an untidy sheet beside the tidy one that it is rewritten to. The texts are written by hand, the picture of
+                     case C by ./draw
+examples.py --check  holds each sheet to the one made here and to its text, its listing to the model's, and what the program agree prints to the listing; then
+                     some inputs of odd lengths. Holds what the program rewrite writes of all of these, and of the sheets of crate runs, to the model's normal
+                     form. The last line is 'N passed, M failed'
 """
 import os
 import pathlib
@@ -12,13 +14,16 @@ import subprocess
 import sys
 
 import model
+import run_sheets
 import sheet as reader
 from counting import built, closing
 
 TOP = os.path.join(os.path.dirname(os.path.abspath(__file__)), "..")
 EXAMPLES = os.path.join(TOP, "examples")
-LARGEST_TABLE, LONGEST_LISTING = 36864, 300
-PROGRAM = os.path.join(TOP, "target", "bin", "agree")
+LONGEST_LISTING = 300
+PROGRAM, REWRITE = (os.path.join(TOP, "target", "bin", name) for name in ("agree", "rewrite"))
+# by a text its records would be chained, so it has none
+UNTIDY = "untidy"
 
 
 # ---- a listing in Python, from document 01
@@ -26,7 +31,7 @@ PROGRAM = os.path.join(TOP, "target", "bin", "agree")
 
 def listing(data):
     n, t = data[:2] if len(data) > 1 else (0, 0)
-    cause, table = reader.read(data, [0] * min(reader.table_size(n, t), LARGEST_TABLE))
+    cause, table = reader.read(data, [0] * min(reader.table_size(n, t), reader.LARGEST_TABLE))
     if cause:
         return f"refused {cause}\n"
     n, t, T, sender, value, marks = reader.header(data)
@@ -80,6 +85,20 @@ def longest_sheet():
     return sheet_of(32, 10, 10, 7, 1, bad, shuffled(records, 1), shuffled(range(1, 4097), 2))
 
 
+def untidy():
+    """A sheet put together by hand: a chain that goes back and forth, silence in it, and records outside it that would be refused in it."""
+    return bytes([4, 0, 1, 4, 0, 0, 4, 0, 8, 0, 0, 0]) + b"".join(bytes(record) for record in (
+        (2, 4, 3, 1, 0, 0, 0, 0),       # 1: the last of the chain
+        (255,) * 8,                     # 2: garbage
+        (1, 4, 2, 0, 6, 0, 0, 0),       # 3: the second
+        (1, 4, 1, 1, 3, 0, 0, 0),       # 4: the first
+        (1, 4, 1, 0, 5, 0, 0, 0),       # 5: another ballot for a place that is taken, and after it itself
+        (1, 4, 3, 255, 7, 0, 0, 0),     # 6: the third, silence
+        (3, 4, 1, 77, 1, 0, 0, 0),      # 7: the fourth, garbled
+        (1, 2, 1, 1, 9, 0, 0, 0),       # 8: from a good station
+    ))
+
+
 def sheets():
     told = [(1, 4, 1, 1), (1, 4, 2, 0), (1, 4, 3, 0)]
     both = [(r, 1, j, j - 2) for j in (2, 3) for r in (1, 2, 3, 5, 6)]
@@ -92,6 +111,8 @@ def sheets():
         "large": large(),
         # every number that can have two digits has two: n, t, T, the sender and R
         "longest": sheet_of(32, 10, 10, 32, 1, [], []),
+        UNTIDY: untidy(),
+        "tidy": sheet_of(4, 0, 1, 4, 0, [4], [(1, 4, 1, 1), (1, 4, 2, 0), (2, 4, 3, 1), (3, 4, 1, 77)]),
     }
 
 
@@ -117,8 +138,8 @@ def read(path):
         return file.read()
 
 
-def printed(sheet):
-    done = subprocess.run([PROGRAM], input=sheet, capture_output=True)
+def printed(sheet, program=PROGRAM):
+    done = subprocess.run([program], input=sheet, capture_output=True)
     return done.stdout if done.returncode == 0 and not done.stderr else None
 
 
@@ -137,6 +158,8 @@ def made_of(command, file):
 def texts():
     """Each example's text gives its sheet, and the sheet's text in the normal form gives it back."""
     for name, sheet in sheets().items():
+        if name == UNTIDY:
+            continue
         yield f"{name}: the text gives the sheet", made_of("sheet", os.path.join(EXAMPLES, name + ".text")) == sheet
         text = made_of("text", os.path.join(EXAMPLES, name + ".sheet"))
         done = subprocess.run([os.path.join(TOP, "sheet")], input=text, capture_output=True)
@@ -147,7 +170,7 @@ def texts():
 
 def checks():
     """A name and whether it holds, for each."""
-    expected = {name + end for name in sheets() for end in (".sheet", ".listing", ".text")} | {"c.svg"}
+    expected = {name + end for name in sheets() for end in (".sheet", ".listing", ".text")} - {UNTIDY + ".text"} | {"c.svg"}
     yield "examples/ has these and no others", set(os.listdir(EXAMPLES)) == expected
     for name, made in sheets().items():
         sheet, text = (read(os.path.join(EXAMPLES, name + end)) for end in (".sheet", ".listing"))
@@ -160,7 +183,27 @@ def checks():
         yield f"{name}: {expected.split(chr(10))[0]}", printed(sheet) == expected.encode()
 
 
+def rewriting(name, sheet):
+    """What the program makes of a sheet is the model's normal form, or its refusal; and of a normal form, the same again."""
+    cause, normal = reader.rewritten(sheet)
+    made = printed(sheet, REWRITE)
+    yield f"{name}: rewritten", made == (f"refused {cause}\n".encode() if cause else normal)
+    if not cause:
+        yield f"{name}: its normal form rewritten", printed(normal, REWRITE) == normal
+
+
+def rewritings():
+    """The tidy sheet is the normal form of the untidy one and has its listing; then each input in turn."""
+    made = sheets()
+    yield "untidy: its normal form is the tidy sheet", printed(made[UNTIDY], REWRITE) == made["tidy"] != made[UNTIDY]
+    yield "untidy: the tidy sheet has the same listing", read(os.path.join(EXAMPLES, "untidy.listing")) == read(os.path.join(EXAMPLES, "tidy.listing"))
+    for name, sheet in {**made, **odd_inputs()}.items():
+        yield from rewriting(name, sheet)
+    for number, run in enumerate(run_sheets.stored(), 1):
+        yield from rewriting(f"run {number}", run.sheet)
+
+
 if __name__ == "__main__":
     if sys.argv[1:] == ["--check"]:
-        sys.exit(not (built(pathlib.Path(PROGRAM)) and closing([*checks(), *texts()])))
+        sys.exit(not (all(built(pathlib.Path(program)) for program in (PROGRAM, REWRITE)) and closing([*checks(), *texts(), *rewritings()])))
     write()

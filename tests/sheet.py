@@ -1,8 +1,8 @@
-"""Document 01's reader of run sheets, for the tests, from the document alone.
+"""Document 01's reader of run sheets and document 02's writer (Ticket 1), for the tests, from the documents alone.
 
-A sheet is bytes. Stations and rounds keep the document's numbers, from 1.
+A sheet is bytes. Stations and rounds keep the documents' numbers, from 1.
 """
-HEADER, RECORD, MOST_RECORDS = 12, 8, 4096
+HEADER, RECORD, MOST_RECORDS, LARGEST_TABLE = 12, 8, 4096, 36864
 SILENCE = 255
 
 
@@ -90,3 +90,38 @@ def read(sheet, table):
     for r, i, j, ballot, _, _ in chain:
         filled[place(n, r, i, j)] = ballot
     return 0, filled
+
+
+# ---- the writer
+
+
+def records(head, table):
+    """Round, from, to and ballot of "one record for each byte of a marked sender that is not 255, by round, then from, then to"."""
+    n, t, _, _, _, marks = header(head)
+    stations = range(1, n + 1)
+    places = [(r, i, j) for r in range(1, 3 * t + 7) for i in stations if marks >> (i - 1) & 1 for j in stations]
+    return [(r, i, j, table[place(n, r, i, j)]) for r, i, j in places if table[place(n, r, i, j)] != SILENCE]
+
+
+def needed(head, table):
+    """The number of the cause, or 0, before a sheet's buffer is looked at, and how many bytes the sheet needs, 0 if it is refused."""
+    cause = 1 if len(head) != HEADER else opening(head, len(table))
+    k = 0 if cause else len(records(head, table))
+    if k > MOST_RECORDS:
+        cause = 14
+    return (cause, 0) if cause else (0, HEADER + RECORD * k)
+
+
+def written(head, table):
+    """The sheet of a header and a table that are accepted: chained 1, 2, 3, with "1 there, or 0 without records" as the first index."""
+    told = records(head, table)
+    nexts = [*range(2, len(told) + 1), 0]
+    chain = b"".join(bytes(record) + after.to_bytes(2, "little") + bytes(2) for record, after in zip(told, nexts))
+    return head[:6] + bytes([min(len(told), 1), 0]) + head[8:] + chain
+
+
+def rewritten(sheet):
+    """The number of the cause, or 0, and the normal form: the sheet read, then written from its first 12 bytes and its table."""
+    size = table_size(*sheet[:2]) if len(sheet) > 1 else 0
+    cause, table = read(sheet, [SILENCE] * min(size, LARGEST_TABLE))
+    return cause, b"" if cause else written(sheet[:HEADER], table)
