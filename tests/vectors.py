@@ -1,10 +1,11 @@
 #!/usr/bin/env python3
-"""Holds every exported call and the program agree to the conformance vectors of vectors/ (vectors/README.md has their form).
+"""Holds every exported call and the programs agree and rewrite to the conformance vectors of vectors/ (vectors/README.md has their form).
 
 A call is handed each buffer with bytes around it that must stay as they are; so must what it may only read, and in a refused call every
-buffer. Then the test itself is tried: on copies of the vectors with a wrong answer planted in each, and on calls that write where they
-may not. The last line is 'N passed, M failed'.
+buffer. Then the test itself is tried: on copies of the vectors with a wrong answer planted in each, on calls that write where they may not or
+answer otherwise, and on other programs. The last line is 'N passed, M failed'.
 """
+import collections
 import copy
 import ctypes
 import json
@@ -13,10 +14,11 @@ import subprocess
 import sys
 import tempfile
 
+import sheet as sheets
 from counting import built, closing
 
 TOP = pathlib.Path(__file__).resolve().parent.parent
-VECTORS, PROGRAM = TOP / "vectors", TOP / "target" / "bin" / "agree"
+VECTORS, PROGRAM, REWRITE = TOP / "vectors", TOP / "target" / "bin" / "agree", TOP / "target" / "bin" / "rewrite"
 LIBRARIES = "exports", "controller", "lent"
 LINE, STATION, STATE = ("n", "t", "T"), ("n", "t", "T", "sender", "own"), ("round", "value", "z", "grade")
 AROUND, WORD = 64, 2 ** 32
@@ -77,6 +79,7 @@ class Library:
         self.declare(byte, vembopu_rehearse=[byte] * 5 + [word] + buffer * 3)
         self.declare(ctypes.c_uint64, vembopu_open=station + [byte], vembopu_advance=station + [word] + buffer)
         self.declare(ctypes.c_uint64, vembopu_ballot=station + [word], vembopu_result=station + [word])
+        self.declare(ctypes.c_uint64, vembopu_sheet_len=buffer * 2, vembopu_write=buffer * 3)
 
     def declare(self, answer, **calls):
         for name, arguments in calls.items():
@@ -122,6 +125,19 @@ def lent(args, *names):
 def read(library, args):
     sheet, table = given(args, "sheet"), lent(args, "table")
     return answer(library.call("vembopu_read", *sheet, *table), sheet, table)
+
+
+def write(library, args):
+    """The sheet. The bytes that it needs are told beforehand as the model has them, and how many records it has afterwards."""
+    inputs, sheet = given(args, "header", "table"), lent(args, "sheet")
+    told, wanted = divmod(library.call("vembopu_sheet_len", *inputs), WORD), sheets.needed(*(buffer.content() for buffer in inputs))
+    answer(told[0], inputs, [])
+    if told != wanted:
+        raise Fault(f"vembopu_sheet_len answers {told}, wanted is {wanted}")
+    refused, records = divmod(library.call("vembopu_write", *inputs, *sheet), WORD)
+    if records != (0 if refused else (sheet[0].size - sheets.HEADER) // sheets.RECORD):
+        raise Fault(f"vembopu_write answers {refused} and {records} records")
+    return answer(refused, inputs, sheet)
 
 
 def exchange(library, args):
@@ -200,7 +216,7 @@ def station_state(library, args):
     return {"refusals": {**refusals, "row": one.take(bytes.fromhex(args["row_bytes"]))}}
 
 
-CALLS = {call.__name__: call for call in (read, exchange, rehearse, station, station_state)}
+CALLS = {call.__name__: call for call in (read, write, exchange, rehearse, station, station_state)}
 
 
 def call_fault(library, vector):
@@ -212,11 +228,48 @@ def call_fault(library, vector):
     return None if made == vector["want"] else f"gives {made}, wanted is {vector['want']}"
 
 
+def ran(program, data):
+    """How a program ends that is given these bytes: its status, and what it writes to standard output and standard error."""
+    done = subprocess.run([program], input=data, capture_output=True)
+    return done.returncode, done.stdout, done.stderr
+
+
+def rewrite(data):
+    return ran(REWRITE, data)
+
+
 def listing_fault(program, vector):
     """What is wrong with what the program prints of a sheet, if anything is."""
-    done = subprocess.run([program], input=bytes.fromhex(vector["sheet"]), capture_output=True)
-    made = done.returncode, done.stdout, done.stderr
+    made = ran(program, bytes.fromhex(vector["sheet"]))
     return None if made == (0, vector["listing"].encode(), b"") else f"gives {made}, wanted is {vector['listing']!r}"
+
+
+def sheet_refusal(vector):
+    """The number by which a vector's sheet is refused, 0 if it isn't; None where only the table's length is told to be wrong."""
+    if "listing" in vector:
+        word, number, *_ = vector["listing"].split()
+        return int(number) if word == "refused" else 0
+    number = vector["want"].get("refused", 0)
+    return None if number == 8 else number
+
+
+def rewrite_fault(library, program, vector):
+    """What is wrong with what the program, a function of bytes, makes of a vector's sheet, if anything is: wanted is the refusal, or the model's normal
+    form, of which the program makes the same again and which has the vector's listing or table."""
+    args = vector.get("args", vector)
+    data = bytes.fromhex(args["sheet"])
+    cause, normal = sheets.rewritten(data)
+    if sheet_refusal(vector) not in (None, cause):
+        return f"the model refuses it by {cause}, the vector by {sheet_refusal(vector)}"
+    wanted = 0, f"refused {cause}\n".encode() if cause else normal, b""
+    for given_sheet in (data,) if cause else (data, normal):
+        if (made := program(given_sheet)) != wanted:
+            return f"makes {made} of {given_sheet.hex()}, wanted is {wanted}"
+    if cause or sheet_refusal(vector) is None:
+        return None
+    if "listing" in vector:
+        return listing_fault(PROGRAM, {**vector, "sheet": normal.hex()})
+    return call_fault(library, {**vector, "args": {**args, "sheet": normal.hex()}})
 
 
 # ---- the test of the test
@@ -263,8 +316,18 @@ class Writing:
         return number
 
 
+class Answering:
+    """A library of which one call answers with another number."""
+
+    def __init__(self, library, name, more):
+        self.library, self.name, self.more = library, name, more
+
+    def call(self, name, *arguments):
+        return self.library.call(name, *arguments) + (self.more if name == self.name else 0)
+
+
 BUFFERS = {
-    "read": {"vembopu_read": 2}, "exchange": {"vembopu_exchange": 3}, "rehearse": {"vembopu_rehearse": 3},
+    "read": {"vembopu_read": 2}, "write": {"vembopu_sheet_len": 2, "vembopu_write": 3}, "exchange": {"vembopu_exchange": 3}, "rehearse": {"vembopu_rehearse": 3},
     "station": {"vembopu_advance": 1, "vembopu_advance_lent": 2}, "station_state": {"vembopu_advance": 1, "vembopu_advance_lent": 2},
 }
 
@@ -302,10 +365,33 @@ def own_checks(library, calls, listings):
         if vector["call"] != "station" or "refused" not in vector["want"]:
             for what, writing in writings(library, vector):
                 yield f"{name}: {what}", call_fault(writing, vector) is not None
+        if vector["call"] == "write":
+            for call, more in (("vembopu_sheet_len", 8), ("vembopu_sheet_len", WORD), ("vembopu_write", 1), ("vembopu_write", WORD)):
+                yield f"{name}: {call} with {more} more", call_fault(Answering(library, call, more), vector) is not None
     for vector in listings[:3]:
         wrongs = [planted(vector, ("listing",)), {**vector, "listing": vector["listing"] + "\n"}, {**vector, "listing": ""}]
         yield "a wrong listing is told", told(wrongs, lambda one: listing_fault(PROGRAM, one)) == 3
     yield "another program is told", listing_fault("false", listings[0]) is not None
+    yield from rewriting_checks(library, [vector for vector in calls if vector["call"] == "read"] + listings)
+
+
+def rewriting_checks(library, vectors):
+    """Other programs than rewrite, on a sheet that isn't in its normal form and one that is refused; and wrong vectors."""
+    untidy = next(one for one in vectors if sheet_refusal(one) == 0 and "listing" in one and sheets.rewritten(bytes.fromhex(one["sheet"]))[1].hex() != one["sheet"])
+    read_one = next(one for one in vectors if sheet_refusal(one) == 0 and "args" in one)
+    refused = next(one for one in vectors if sheet_refusal(one))
+    others = {
+        "that gives the sheet": lambda data: (0, data, b""), "that gives nothing": lambda data: (0, b"", b""), "that refuses all": lambda data: (0, b"refused 99\n", b""),
+        "with a status": lambda data: (1, *rewrite(data)[1:]), "that says something": lambda data: (*rewrite(data)[:2], b"so"),
+        "with a byte more": lambda data: (0, rewrite(data)[1] + b"\0", b""),
+    }
+    for name, other in others.items():
+        for kind, vector in ("untidy", untidy), ("refused", refused):
+            yield f"rewrite: a program {name}, {kind}", rewrite_fault(library, other, vector) is not None
+    once = bytes.fromhex(untidy["sheet"])
+    yield "rewrite: another sheet the second time", rewrite_fault(library, lambda data: rewrite(data) if data == once else (0, data + data[-8:], b""), untidy) is not None
+    wrongs = planted(untidy, ("listing",)), planted(read_one, ("want", "table")), {**untidy, "listing": "refused 9\n"}, {**refused, "listing": "refused 99\n"}
+    yield "rewrite: wrong vectors are told", all(rewrite_fault(library, rewrite, one) is not None for one in wrongs)
 
 
 # ---- all together
@@ -321,6 +407,10 @@ def checks(library):
     calls, listings = (lines(VECTORS / name) for name in ("calls.jsonl", "listings.jsonl"))
     faults = [(place, call_fault(library, vector)) for place, vector in calls]
     faults += [(place, listing_fault(PROGRAM, vector)) for place, vector in listings]
+    again = [(place, vector) for place, vector in [*calls, *listings] if vector.get("call", "read") == "read"]
+    faults += [(f"{place}, rewritten", rewrite_fault(library, rewrite, vector)) for place, vector in again]
+    count = collections.Counter(vector["call"] for _, vector in calls)
+    print(f"{len(calls)} calls ({', '.join(f'{name} {number}' for name, number in count.items())}), {len(listings)} listings, {len(again)} sheets rewritten")
     for place, fault in faults:
         yield f"vectors/{place}: {fault}", fault is None
     yield from own_checks(library, [vector for _, vector in calls], [vector for _, vector in listings])
@@ -332,4 +422,4 @@ def main():
 
 
 if __name__ == "__main__":
-    sys.exit(not (built(PROGRAM) and main()))
+    sys.exit(not (built(PROGRAM) and built(REWRITE) and main()))
