@@ -96,7 +96,7 @@ def refusals(folder):
 def documented():
     rows = dict(re.findall(r"^\| (\d+) \| (.*) \|$", (TOP / "README.md").read_text(encoding="utf-8"), re.M))
     yield "README.md has the causes in the same words", rows == causes()
-    yield "as many causes as document 01 has, and 14", [int(number) for number in causes()] == list(range(1, 15))
+    yield "the causes 1 to 14 and no others", [int(number) for number in causes()] == list(range(1, 15))
 
 
 # ---- trouble with the streams
