@@ -160,8 +160,8 @@ static void writings(void)
         make_sheet(sheet, in->k > 0);
         make_table(table, in->k);
         sheet[in->at] = in->byte;
-        struct trial x = {.call = WRITE, .content = {sheet, table}, .len = {in->header_len, in->table_len, in->sheet_len},
-                          .number = in->number};
+        struct trial x = {.call = WRITE, .content = {sheet, table},
+                          .len = {in->header_len, in->table_len, in->sheet_len}, .number = in->number};
         try_one(&x);
         x.call = SHEET_LEN;
         x.len[2] = 0;

@@ -200,8 +200,8 @@ static const struct example examples[] = {
     {.call = SHEET_LEN, .before = {b_header, b_table}, .len = {sizeof b_header, sizeof b_table},
      .answer = sizeof b_sheet},
     /* three records */
-    {.call = WRITE, .before = {b_header, b_table}, .len = {sizeof b_header, sizeof b_table, sizeof b_sheet}, .answer = 3,
-     .after = {NULL, NULL, b_sheet}},
+    {.call = WRITE, .before = {b_header, b_table}, .len = {sizeof b_header, sizeof b_table, sizeof b_sheet},
+     .answer = 3, .after = {NULL, NULL, b_sheet}},
     {.call = REHEARSE, .byte = {4, 0, 1, 4, 0}, .marks = 8, .before = {b_table},
      .len = {sizeof b_table, sizeof b_log, sizeof b_outcomes}, .after = {NULL, b_log, b_outcomes}},
     {.call = REHEARSE, .byte = {4, 0, 1, 3, 1}, .marks = 0, .before = {good_table},

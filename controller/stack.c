@@ -68,7 +68,8 @@ static const struct read_input *reading;
 static const struct write_input *writing;
 static const struct rehearse_input *rehearsing;
 static const struct exchange_input *exchanging;
-static uint8_t row[INPUTS], header[HEADER + RECORD], sheet[SHEET + RECORD], table[TABLE], logged[TABLE], outcomes[OUTCOMES];
+static uint8_t row[INPUTS], header[HEADER + RECORD], sheet[SHEET + RECORD];
+static uint8_t table[TABLE], logged[TABLE], outcomes[OUTCOMES];
 static size_t sheet_len;
 static uint32_t number; /* what the call is answered by */
 

@@ -53,6 +53,7 @@ static int written_as(const uint8_t *bytes, size_t len)
     return same;
 }
 
+/* Says the first few that differ. */
 static int told(const char *name, const struct writing *w, uint64_t got, uint64_t want)
 {
     static int times;
@@ -83,7 +84,7 @@ static int agrees(const struct writing *w)
 
 /* ---- Each cause, and each pair ---- */
 
-/* A writing with its bytes, and the one that faults are laid into. */
+/* A writing with its bytes; faults are laid into copies of the base. */
 struct draft {
     uint8_t header[LONGEST_HEADER];
     uint8_t table[LONGEST_TABLE];
@@ -205,11 +206,12 @@ static int is_for(const struct fault *f)
     return f->lines == ANY || (f->lines == BELOW_32 ? below_32 : full);
 }
 
-/* The number that document 02 gives, of the model first. */
+/* The number of the first fault, of the model and of both calls. */
 static void refused(const struct draft *d, const struct fault *a, const char *b)
 {
     int number = (int)vembopu_refusal(model_write(&d->w, wanted));
-    check(number == a->number, "n %d, %s, %s: the model gives %d, not %d", base.header[0], a->what, b, number, a->number);
+    check(number == a->number, "n %d, %s, %s: the model gives %d, not %d", base.header[0], a->what, b, number,
+          a->number);
     check(agrees(&d->w), "n %d, %s, %s", base.header[0], a->what, b);
 }
 
@@ -318,7 +320,8 @@ static void draw_marks(uint8_t *header)
 static void draw_table(struct draft *d)
 {
     static const uint8_t ballot[] = {0, 1, 2, 255};
-    size_t exact = (size_t)rounds(d->header[1]) * d->header[0] * d->header[0], other[] = {exact + 1, exact - 1, draw(300)};
+    size_t exact = (size_t)rounds(d->header[1]) * d->header[0] * d->header[0];
+    const size_t other[] = {exact + 1, exact - 1, draw(300)};
     uint32_t kind = draw(3);
     size_t len = draw(16) == 0 ? other[draw(3)] : exact;
     d->w.table = d->table;
@@ -331,7 +334,7 @@ static void draw_table(struct draft *d)
 static void draw_lengths(struct draft *d)
 {
     size_t needed = vembopu_needed_bytes(model_sheet_len(&d->w));
-    const size_t near[] = {needed + 1, needed + RECORD, needed > RECORD ? needed - RECORD : 1, needed > 0 ? needed - 1 : 1,
+    const size_t near[] = {needed + 1, needed + RECORD, needed > 0 ? needed - RECORD : 1, needed > 0 ? needed - 1 : 1,
                            HEADER, SHEET};
     d->w.sheet_len = draw(8) == 0 ? near[draw(6)] : needed;
 }

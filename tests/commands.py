@@ -168,7 +168,7 @@ def uses():
         yield f"{command}: a terminal as input", status == 2 and re.fullmatch(said, shown.replace("\r\n", "\n"))
         with open("/dev/full", "wb") as full:
             yield f"{command} --help, a full output", Ran(command, "--help", stdout=full).gives(2, None, f"{command}: standard output can't be written\n")
-    for command, file, kept in ("rewrite", "examples/a.sheet", "line.sheet"), ("sheet", "examples/a.text", "line.sheet"), ("draw", "examples/a.sheet", "line.svg"):
+    for command, file, kept in ("rewrite", "examples/a.sheet", "normal.sheet"), ("sheet", "examples/a.text", "line.sheet"), ("draw", "examples/a.sheet", "line.svg"):
         status, shown = on_terminal([f"./{command}", file])
         said = f"{command}: a terminal can't show it: write it to a file, as in ./{command} {file} >{kept}\r\nusage: "
         yield f"{command}: a terminal as output", status == 2 and shown.startswith(said)
