@@ -22,7 +22,7 @@ TOP = os.path.join(os.path.dirname(os.path.abspath(__file__)), "..")
 EXAMPLES = os.path.join(TOP, "examples")
 LONGEST_LISTING = 300
 PROGRAM, REWRITE = (os.path.join(TOP, "target", "bin", name) for name in ("agree", "rewrite"))
-# by a text its records would be chained, so it has none
+# has no text: none gives records outside the chain
 UNTIDY = "untidy"
 
 
