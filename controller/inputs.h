@@ -1,6 +1,6 @@
 /*
- * Inputs to the calls of exports.h, each with the number that document 01
- * answers it by: the largest line, accepted, and one for every refusal.
+ * Inputs to the calls of exports.h, each with the number that documents 01 and
+ * 02 answer it by: the largest line, accepted, and one for every refusal.
  */
 #ifndef INPUTS_H
 #define INPUTS_H

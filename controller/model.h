@@ -1,7 +1,8 @@
 /*
- * The station's calls and the writer's written once more, in C from document 01
- * and its request 1, for the tests: the judgement, the steps of a station that
- * is accepted, and the sheet that is written. Shares no code with the library.
+ * The station's calls and the writer's written once more, in C from documents
+ * 01 and 02 (Ticket 1), for the tests: the judgement, the steps of a station
+ * that is accepted, and the sheet that is written. Shares no code with the
+ * library.
  */
 #ifndef MODEL_H
 #define MODEL_H

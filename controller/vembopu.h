@@ -86,9 +86,9 @@ static inline int vembopu_rounds(uint8_t t)
 }
 
 /*
- * Why a call is refused, by the numbers of document 01 and of its requests. A
- * station's calls give 2, 3, 4, 5, 7 and 8; the others are given by the calls
- * of exports.h.
+ * Why a call is refused, by the numbers of documents 01 and 02. A station's
+ * calls give 2, 3, 4, 5, 7 and 8; the others are given by the calls of
+ * exports.h.
  */
 enum {
     VEMBOPU_ACCEPTED = 0,
