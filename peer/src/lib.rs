@@ -1,4 +1,5 @@
-//! A second implementation of document 01: Byzantine agreement on one bit with two thresholds.
+//! A second implementation of document 01 with Ticket 1 of document 02: Byzantine agreement on one bit with two
+//! thresholds.
 //!
 //! It shares no code and no table with the crates, so that the two can be compared byte for byte.
 //! Stations and rounds are numbered from 1, as in the document. T is called `upper`.
@@ -24,3 +25,4 @@ pub mod sheet;
 pub mod station;
 pub mod text;
 pub mod timing;
+pub mod writer;

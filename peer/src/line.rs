@@ -25,11 +25,12 @@ pub enum Cause {
     Record,
     FromUnmarked,
     Repeated,
+    TooManyRecords,
 }
 
 impl Cause {
     /// Every cause, lowest number first.
-    pub const ALL: [Cause; 13] = [
+    pub const ALL: [Cause; 14] = [
         Cause::SheetForm,
         Cause::StationCount,
         Cause::Thresholds,
@@ -43,6 +44,7 @@ impl Cause {
         Cause::Record,
         Cause::FromUnmarked,
         Cause::Repeated,
+        Cause::TooManyRecords,
     ];
 
     /// The document's number.
@@ -54,7 +56,8 @@ impl Cause {
     pub fn words(self) -> &'static str {
         match self {
             Cause::SheetForm => {
-                "the sheet's length is not 12 + 8k with k from 0 to 4,096, or byte 5, counted from 0, is not zero"
+                "the sheet's length is not 12 + 8k with k from 0 to 4,096, or a header to be written is not of 12 \
+                 bytes, or byte 5, counted from 0, is not zero"
             }
             Cause::StationCount => "n is outside 1 to 32",
             Cause::Thresholds => "t is above T, or t + 2T is not below n",
@@ -65,7 +68,9 @@ impl Cause {
                 "a station's round is outside 1 to R + 1, its value above 1, its z or grade above 2; or a ballot \
                  or row is wanted of a done station"
             }
-            Cause::Length => "a table, log, outcome, input or row is not of its exact length",
+            Cause::Length => {
+                "a table, log, outcome, input, row or sheet to be written is not of its exact length"
+            }
             Cause::IndexBeyond => "the chain reaches an index above k",
             Cause::ReachedAgain => "the chain reaches a record again",
             Cause::Record => {
@@ -73,6 +78,7 @@ impl Cause {
             }
             Cause::FromUnmarked => "a record is from a station that is not marked",
             Cause::Repeated => "an earlier record of the chain has the same round, from and to",
+            Cause::TooManyRecords => "more than 4,096 records are to be written",
         }
     }
 }
@@ -188,6 +194,12 @@ impl Line {
         before * self.n() + usize::from(to) - 1
     }
 
+    /// Where the bytes from bad stations stand in a table, in its order.
+    pub fn bad_places(self, marks: Marks) -> impl Iterator<Item = usize> {
+        let rows = (1..=self.rounds()).flat_map(move |round| marks.stations().map(move |from| (round, from)));
+        rows.flat_map(move |(round, from)| self.stations().map(move |to| self.place(round, from, to)))
+    }
+
     /// The bytes of one round that come from one station.
     pub fn from_one<'a>(&self, station: u8, said: &'a [u8]) -> &'a [u8] {
         &said[(usize::from(station) - 1) * self.n()..][..self.n()]
@@ -217,6 +229,16 @@ impl Marks {
     /// f.
     pub fn count(self) -> u32 {
         self.0.count_ones()
+    }
+
+    /// The bad stations, lowest number first.
+    pub fn stations(self) -> impl Iterator<Item = u8> {
+        let mut rest = self.0;
+        std::iter::from_fn(move || {
+            let lowest = rest.trailing_zeros() as u8;
+            rest &= rest.checked_sub(1)?;
+            Some(lowest + 1)
+        })
     }
 
     /// Cause 6: no mark may stand beyond the line's last station.

@@ -29,8 +29,13 @@ pub fn run(bytes: &[u8]) -> Result<Run, Cause> {
 pub fn listing(bytes: &[u8]) -> String {
     match run(bytes) {
         Ok(run) => accepted(&run),
-        Err(cause) => format!("refused {}\n", cause.number()),
+        Err(cause) => refusal(cause),
     }
+}
+
+/// The one line of a sheet that is refused.
+pub fn refusal(cause: Cause) -> String {
+    format!("refused {}\n", cause.number())
 }
 
 fn accepted(run: &Run) -> String {

@@ -38,6 +38,12 @@ impl Lot {
         from[self.below(from.len() as u64) as usize]
     }
 
+    pub fn shuffle<T>(&mut self, list: &mut [T]) {
+        for end in (1..list.len()).rev() {
+            list.swap(end, self.below(end as u64 + 1) as usize);
+        }
+    }
+
     /// A line of at most `most` stations that is accepted.
     pub fn line(&mut self, most: u8) -> Line {
         loop {

@@ -7,12 +7,14 @@ use peer::draw::draw;
 use peer::line::Cause;
 use peer::listing::{listing, run};
 use peer::runs::runs;
+use peer::writer::{normal_form, rewritten};
 use peer::{sheet, text};
 
 const USAGE: &str = "\
 usage: peer listing [SHEET]    the listing of a run sheet
        peer sheet [TEXT]       the run sheet that a text stands for
        peer text [SHEET]       a run sheet as text, in the normal form
+       peer rewrite [SHEET]    a run sheet's normal form, as a sheet
        peer draw [SHEET]       a drawing of the run, as SVG
        peer runs [RUNS]        what the program of crate runs must print of stored runs
 A file that isn't named, or is named -, is read from standard input. What is made goes to standard output.
@@ -52,6 +54,7 @@ fn make(command: &str, rest: &[String]) -> Option<ExitCode> {
         "listing" => make_listing(file),
         "sheet" => make_sheet(file),
         "text" => make_text(file),
+        "rewrite" => make_normal_form(file),
         "draw" => make_drawing(file),
         "runs" => make_runs(file),
         _ => return None,
@@ -176,6 +179,12 @@ fn make_sheet(file: Option<&str>) -> Result<Made, String> {
 fn make_text(file: Option<&str>) -> Result<Made, String> {
     let made = text::of_sheet(&read_sheet(file)?);
     Ok(made.map_or_else(|cause| Made::refused(refusal(file, cause)), Made::whole))
+}
+
+fn make_normal_form(file: Option<&str>) -> Result<Made, String> {
+    let sheet = read_sheet(file)?;
+    let refused = normal_form(&sheet).err().map(|cause| refusal(file, cause));
+    Ok(Made { bytes: rewritten(&sheet), refused })
 }
 
 fn make_drawing(file: Option<&str>) -> Result<Made, String> {

@@ -18,6 +18,14 @@ pub struct Record {
     pub ballot: u8,
 }
 
+impl Record {
+    /// The eight bytes, with the index of the next record of the chain.
+    pub fn bytes(&self, next: u16) -> [u8; RECORD_LEN] {
+        let [low, high] = next.to_le_bytes();
+        [self.round, self.from, self.to, self.ballot, low, high, 0, 0]
+    }
+}
+
 /// Two bytes, low byte first.
 fn two(bytes: &[u8], at: usize) -> usize {
     usize::from(u16::from_le_bytes([bytes[at], bytes[at + 1]]))
@@ -112,9 +120,7 @@ pub fn write(header: &Header, records: &[Record]) -> Vec<u8> {
     sheet.extend(next(0).to_le_bytes());
     sheet.extend(header.marks.0.to_le_bytes());
     for (record, index) in records.iter().zip(1..) {
-        sheet.extend([record.round, record.from, record.to, record.ballot]);
-        sheet.extend(next(index).to_le_bytes());
-        sheet.extend([0, 0]);
+        sheet.extend(record.bytes(next(index)));
     }
     sheet
 }

@@ -45,16 +45,10 @@ fn many(lot: &mut Lot, header: &Header) -> Vec<Record> {
             records.extend(line.stations().map(|to| Record { round, from, to, ballot: lot.ballot() }));
         }
     }
-    shuffle(lot, &mut records);
+    lot.shuffle(&mut records);
     let fewer = 1 + lot.below(RECORDS as u64) as usize;
     records.truncate(lot.pick(&[fewer, RECORDS]));
     records
-}
-
-fn shuffle<T>(lot: &mut Lot, list: &mut [T]) {
-    for end in (1..list.len()).rev() {
-        list.swap(end, lot.below(end as u64 + 1) as usize);
-    }
 }
 
 /// A sheet whose chain goes through its records in any order. So many stand outside of it.
@@ -62,15 +56,13 @@ fn scattered(lot: &mut Lot, header: &Header, records: &[Record], outside: usize)
     let k = records.len() + outside;
     let mut indices: Vec<u16> = (1..=k as u16).collect();
     if lot.one_in(2) {
-        shuffle(lot, &mut indices);
+        lot.shuffle(&mut indices);
     }
     let mut sheet = sheet::write(header, &[]);
     sheet.extend((0..k * RECORD_LEN).map(|_| lot.byte()));
     let mut next = 0u16;
     for (record, &index) in records.iter().zip(&indices).rev() {
-        let [low, high] = next.to_le_bytes();
-        let bytes = [record.round, record.from, record.to, record.ballot, low, high, 0, 0];
-        at(&mut sheet, index.into()).copy_from_slice(&bytes);
+        at(&mut sheet, index.into()).copy_from_slice(&record.bytes(next));
         next = index;
     }
     sheet[6..8].copy_from_slice(&next.to_le_bytes());
