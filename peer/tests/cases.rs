@@ -1,4 +1,4 @@
-//! The document's cases A to H, sheets that are no sheets by their length, and the rounds' parts.
+//! The document's cases A to H, rewritten too, sheets that are no sheets by their length, and the rounds' parts.
 
 mod common;
 
@@ -6,6 +6,7 @@ use common::header;
 use peer::line::Line;
 use peer::listing::listing;
 use peer::sheet::{write, Record};
+use peer::writer::rewritten;
 
 fn record(round: u8, from: u8, to: u8, ballot: u8) -> Record {
     Record { round, from, to, ballot }
@@ -18,6 +19,7 @@ fn thresholds(n: u8, t: u8, upper: u8) -> u8 {
 #[test]
 fn case_a() {
     let sheet = [4, 1, 1, 1, 1, 0, 0, 0, 8, 0, 0, 0];
+    assert_eq!(rewritten(&sheet), sheet);
     assert_eq!(listing(&sheet), "agree 4 1 1 1 9\n1 1 2 0\n2 1 2 0\n3 1 2 0\n4 - - -\n");
 }
 
@@ -26,6 +28,12 @@ fn case_b() {
     let told = [record(1, 4, 1, 1), record(1, 4, 2, 0), record(1, 4, 3, 0)];
     let sheet = write(&header(4, 0, 1, 4, 0, 0b1000), &told);
     assert_eq!(listing(&sheet), "agree 4 0 1 4 6\n1 0 1 1\n2 0 1 1\n3 0 1 1\n4 - - -\n");
+    assert_eq!(rewritten(&sheet), sheet);
+    // in another order, with silence told, and with a record that isn't chained
+    let told = [told[2], record(6, 4, 4, 255), told[0], told[1]];
+    let mut untidy = write(&header(4, 0, 1, 4, 0, 0b1000), &told);
+    untidy.extend([9; 8]);
+    assert_eq!((listing(&untidy), rewritten(&untidy)), (listing(&sheet), sheet));
 }
 
 #[test]
@@ -34,6 +42,7 @@ fn case_c() {
     let told: Vec<Record> = rounds.iter().flat_map(|&r| [record(r, 1, 2, 0), record(r, 1, 3, 1)]).collect();
     let sheet = write(&header(3, 0, 1, 1, 0, 0b001), &told);
     assert_eq!(listing(&sheet), "agree 3 0 1 1 6\n1 - - -\n2 0 1 1\n3 1 1 1\n");
+    assert_eq!(rewritten(&sheet), sheet);
 }
 
 #[test]
@@ -65,11 +74,13 @@ fn case_g() {
     let mut sheet = write(&header(4, 1, 1, 1, 1, 8), &[record(1, 4, 1, 1)]);
     sheet[16] = 1;
     assert_eq!(listing(&sheet), "refused 10\n");
+    assert_eq!(rewritten(&sheet), b"refused 10\n");
 }
 
 #[test]
 fn case_h() {
     assert_eq!(listing(&[0; 13]), "refused 1\n");
+    assert_eq!(rewritten(&[0; 13]), b"refused 1\n");
     assert_eq!(listing(&[0; 12]), "refused 2\n");
     assert_eq!(listing(&write(&header(33, 0, 0, 1, 0, 0), &[])), "refused 2\n");
 }

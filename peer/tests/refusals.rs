@@ -6,7 +6,9 @@ use common::Lot;
 use peer::exchange::alone;
 use peer::line::{Cause, Header, Line, Marks, LARGEST_TABLE};
 use peer::rehearsal::rehearse;
+use peer::sheet;
 use peer::station::{Answer, Station};
+use peer::writer;
 
 /// 0 for an accepted call, otherwise the cause's number.
 fn code<T>(answer: Result<T, Cause>) -> u8 {
@@ -66,6 +68,55 @@ fn rehearsals() {
         seen[usize::from(expected)] += 1;
     }
     assert!([0, 2, 3, 4, 5, 6, 8].iter().all(|&cause: &usize| seen[cause] > 20), "{seen:?}");
+}
+
+/// What a table makes: a record for each byte of a marked sender that is not silence. The line has n stations.
+fn records(n: u8, marks: u32, table: &[u8]) -> usize {
+    let from = |place: usize| place / usize::from(n) % usize::from(n);
+    let said = |&(place, &byte): &(usize, &u8)| byte != 255 && marks >> from(place) & 1 == 1;
+    table.iter().enumerate().filter(said).count()
+}
+
+/// The causes stand in the order in which they are judged, and the first that holds is given: 8 for the table comes before 14,
+/// 8 for the sheet after it.
+#[test]
+fn writing() {
+    let mut lot = Lot(5);
+    let mut seen = [0; 16];
+    for _ in 0..20_000 {
+        let (n, t, upper) = lot.edge_numbers();
+        let sender = lot.pick(&[1, 1, n, n, 0, n.wrapping_add(1)]);
+        let value = lot.pick(&[0, 1, 0, 1, 2, 255]);
+        let marks = lot.edge_marks(n);
+        let mut header = sheet::write(&Header { n, t, upper, sender, value, marks: Marks(marks) }, &[]);
+        header[5] = lot.pick(&[0, 0, 0, 0, 0, 0, 0, 1, 255]);
+        header[6..8].copy_from_slice(&lot.word().to_le_bytes()[..2]);
+        header.resize(lot.near(12), 0);
+        let (exact, _) = lengths(n, t, 3 * usize::from(t) + 6);
+        let table = vec![lot.pick(&[0, 1, 254, 255]); lot.near(exact)];
+        let k = if no_stations(n) { 0 } else { records(n, marks, &table) };
+        let mut sheet = vec![99; lot.near(12 + 8 * k)];
+        let before_buffer = [
+            (1, header.len() != 12 || header[5] != 0),
+            (2, no_stations(n)),
+            (3, no_thresholds(n, t, upper)),
+            (4, sender == 0 || sender > n),
+            (5, value > 1),
+            (6, mark_beyond(n, marks)),
+            (8, table.len() != exact),
+            (14, k > 4_096),
+        ];
+        let first =
+            |causes: &[(u8, bool)]| causes.iter().find(|(_, holds)| *holds).map_or(0, |(cause, _)| *cause);
+        let needed = first(&before_buffer);
+        let expected = if needed != 0 { needed } else { first(&[(8, sheet.len() != 12 + 8 * k)]) };
+        assert_eq!(code(writer::sheet_len(&header, &table)), needed, "{header:?}");
+        assert_eq!(code(writer::write(&header, &table, &mut sheet)), expected, "{header:?}");
+        assert!(sheet.iter().all(|&byte| byte == 99) == (expected != 0), "{header:?}");
+        // 8 for the sheet is counted apart
+        seen[if needed == expected { usize::from(expected) } else { 15 }] += 1;
+    }
+    assert!([0, 1, 2, 3, 4, 5, 6, 8, 14, 15].iter().all(|&cause: &usize| seen[cause] > 20), "{seen:?}");
 }
 
 #[test]
