@@ -1,4 +1,4 @@
-//! The conformance vectors of `vectors/`, computed from document 01 by another implementation.
+//! The conformance vectors of `vectors/`, computed from the documents by another implementation.
 
 mod json;
 
@@ -11,6 +11,7 @@ use peer::listing::listing;
 use peer::rehearsal::rehearse;
 use peer::sheet;
 use peer::station::{Answer, Station};
+use peer::writer;
 
 const CALLS: &str = include_str!("../../vectors/calls.jsonl");
 const LISTINGS: &str = include_str!("../../vectors/listings.jsonl");
@@ -39,6 +40,25 @@ fn read(args: &Value) -> Value {
         Ok(_) => Value::object([("table", Value::hex(&table))]),
         Err(cause) => {
             untouched(&[&table]);
+            refused(cause)
+        }
+    }
+}
+
+/// A sheet that is written is of the length that was told before; a refusal is told before too, but that of the buffer.
+fn write(args: &Value) -> Value {
+    let [header, table] = ["header", "table"].map(|name| args.at(name).bytes());
+    let mut sheet = lent(args, "sheet_len");
+    let needed = writer::sheet_len(&header, &table);
+    match writer::write(&header, &table, &mut sheet) {
+        Ok(k) => {
+            assert_eq!((needed, sheet.len()), (Ok(sheet.len()), 12 + 8 * k));
+            Value::object([("sheet", Value::hex(&sheet))])
+        }
+        Err(cause) => {
+            let of_buffer = needed.is_ok_and(|needed| needed != sheet.len()) && cause == Cause::Length;
+            assert!(needed == Err(cause) || of_buffer, "{needed:?}, then {cause:?}");
+            untouched(&[&sheet]);
             refused(cause)
         }
     }
@@ -117,6 +137,7 @@ fn station_state(args: &Value) -> Value {
 fn made(call: &str, args: &Value) -> Value {
     match call {
         "read" => read(args),
+        "write" => write(args),
         "exchange" => exchange(args),
         "rehearse" => rehearsal(args),
         "station" => station(args),
@@ -133,7 +154,7 @@ fn calls() {
         assert_eq!(&made, vector.at("want"), "calls.jsonl, line {number}");
     }
     let names: BTreeSet<&str> = vectors.iter().map(|vector| vector.text("call")).collect();
-    assert_eq!(names.len(), 5, "a call has no vector: {names:?}");
+    assert_eq!(names.len(), 6, "a call has no vector: {names:?}");
 }
 
 #[test]
