@@ -13,6 +13,20 @@ use crate::station::Station;
 mod exported {
     unsafe extern "C" {
         pub fn vembopu_read(sheet: *const u8, sheet_len: usize, table: *mut u8, table_len: usize) -> u8;
+        pub fn vembopu_sheet_len(
+            header: *const u8,
+            header_len: usize,
+            table: *const u8,
+            table_len: usize,
+        ) -> u64;
+        pub fn vembopu_write(
+            header: *const u8,
+            header_len: usize,
+            table: *const u8,
+            table_len: usize,
+            sheet: *mut u8,
+            sheet_len: usize,
+        ) -> u64;
         pub fn vembopu_rehearse(
             n: u8,
             t: u8,
@@ -91,6 +105,22 @@ pub fn read(sheet: ReadOnly, table: Handed) -> u8 {
     let sheet = &sheet.0;
     // SAFETY: the bytes are each in a buffer of its own, borrowed through the call.
     unsafe { exported::vembopu_read(sheet.start, sheet.len, table.start, table.len) }
+}
+
+/// The bytes that the sheet of a header and a run table needs.
+pub fn sheet_len(header: ReadOnly, table: ReadOnly) -> u64 {
+    let (header, table) = (&header.0, &table.0);
+    // SAFETY: as for `read`.
+    unsafe { exported::vembopu_sheet_len(header.start, header.len, table.start, table.len) }
+}
+
+/// Writes the sheet of a header and a run table into a lent buffer: how many records it has.
+pub fn write(header: ReadOnly, table: ReadOnly, sheet: Handed) -> u64 {
+    let (header, table) = (&header.0, &table.0);
+    // SAFETY: as for `read`.
+    unsafe {
+        exported::vembopu_write(header.start, header.len, table.start, table.len, sheet.start, sheet.len)
+    }
 }
 
 /// Rehearses a broadcast: the refusal's number.
@@ -199,7 +229,8 @@ pub mod planted {
         };
         let names = |told: String| {
             let changed = |name: &&str| told.contains(&format!("{name}, only to be read, byte {byte}: "));
-            ["the sheet", "the table", "the inputs", "the row"].into_iter().filter(changed).collect()
+            let all = ["the sheet", "the header", "the table", "the inputs", "the row"];
+            all.into_iter().filter(changed).collect()
         };
         let found = (0..3).flat_map(|buffer| -> Vec<&str> { names(told(buffer)) }).collect();
         WRITE.set(None);

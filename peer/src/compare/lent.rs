@@ -114,8 +114,13 @@ pub fn difference(ours: u8, theirs: u8, lent: &[&Lending], read: &[&Reading]) ->
     if ours != theirs {
         return Some(format!("peer answers {ours}, verified {theirs}"));
     }
+    fault(ours != 0, lent, read)
+}
+
+/// The same of the buffers alone, where the answers are equal.
+pub fn fault(refused: bool, lent: &[&Lending], read: &[&Reading]) -> Option<String> {
     let changed = read.iter().find_map(|reading| reading.fault());
-    changed.or_else(|| lent.iter().find_map(|lending| lending.fault(ours != 0)))
+    changed.or_else(|| lent.iter().find_map(|lending| lending.fault(refused)))
 }
 
 #[cfg(test)]

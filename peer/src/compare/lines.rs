@@ -18,9 +18,14 @@ fn number(answer: Result<(), Cause>) -> u8 {
     answer.map_or_else(Cause::number, |()| 0)
 }
 
-/// A header that is accepted, or one that is spoilt.
+/// A header of any line that is accepted, or one that is spoilt.
 pub fn header(lot: &mut Lot) -> Header {
-    let mut header = if lot.one_in(2) { lot.header(32) } else { lot.header_near_thresholds(32).0 };
+    header_of(lot, 32)
+}
+
+/// The same of a line of at most so many stations, before it is spoilt.
+pub fn header_of(lot: &mut Lot, most: u8) -> Header {
+    let mut header = if lot.one_in(2) { lot.header(most) } else { lot.header_near_thresholds(most).0 };
     if lot.one_in(4) {
         spoil(lot, &mut header);
         while lot.one_in(2) {

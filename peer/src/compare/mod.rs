@@ -8,6 +8,7 @@ pub(crate) mod report;
 mod sheets;
 pub(crate) mod stations;
 mod whole;
+pub(crate) mod writer;
 
 use std::time::{Duration, Instant};
 
@@ -33,8 +34,11 @@ const fn call(
     Call { name, inputs, numbers, compare }
 }
 
-const CALLS: [Call; 9] = [
+const CALLS: [Call; 12] = [
     call("read", 4, &reader::NUMBERS, reader::read),
+    call("sheet_len", 1, &writer::NUMBERS, writer::sheet_len),
+    call("write", 1, &writer::NUMBERS, writer::write),
+    call("read back", 1, &[0], writer::read_back),
     call("rehearse", 2, &lines::REHEARSE, lines::rehearse),
     call("exchange", 8, &lines::EXCHANGE, lines::exchange),
     call("open", 8, &stations::OPEN, stations::open),
@@ -104,6 +108,8 @@ mod tests {
         for call in &CALLS {
             let expected: &[&str] = match call.name {
                 "read" => &["the sheet"],
+                "sheet_len" | "write" => &["the table", "the header"],
+                "read back" => &["the table", "the header", "the sheet"],
                 "rehearse" => &["the table"],
                 "exchange" => &["the table", "the inputs"],
                 "advance" | "advance_lent" => &["the row"],

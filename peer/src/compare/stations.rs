@@ -32,11 +32,11 @@ pub fn result_values(answer: Answer) -> u32 {
 }
 
 /// What differs between two answers, if anything does.
-fn difference(ours: u64, theirs: u64) -> Option<String> {
+pub fn difference(ours: u64, theirs: u64) -> Option<String> {
     (ours != theirs).then(|| format!("peer answers {ours:#x}, verified {theirs:#x}"))
 }
 
-fn compared(ours: u64, difference: Option<String>, told: impl FnOnce(Told) -> Told) -> Compared {
+pub fn compared(ours: u64, difference: Option<String>, told: impl FnOnce(Told) -> Told) -> Compared {
     let difference = difference.map(|what| told(Told::new(&what)).text());
     Compared { number: (ours >> 32) as u8, difference }
 }

@@ -1,0 +1,212 @@
+//! The writer compared, and what it writes read back.
+
+use super::input::Told;
+use super::lent::{fault, Lending, Lent, Reading};
+use super::lines;
+use super::report::Compared;
+use super::stations::{compared, difference, word};
+use crate::ffi;
+use crate::line::{Cause, Header, Line, Marks, SILENCE};
+use crate::lot::Lot;
+use crate::sheet::{self, HEADER_LEN, LONGEST, RECORDS, RECORD_LEN};
+use crate::writer;
+
+/// The numbers that both calls of the writer can answer.
+pub const NUMBERS: [u8; 9] = [0, 1, 2, 3, 4, 5, 6, 8, 14];
+
+/// How many stations a line may have: mostly few, since a large table takes long.
+fn most(lot: &mut Lot) -> u8 {
+    if lot.one_in(24) {
+        32
+    } else {
+        lot.pick(&[4, 7, 12])
+    }
+}
+
+/// A header's bytes. The first index, which isn't looked at, is any.
+fn header_bytes(lot: &mut Lot, header: &Header) -> Vec<u8> {
+    let mut bytes = sheet::write(header, &[]);
+    let any = lot.word() as u16;
+    let index = lot.pick(&[0, 1, 2, 4_096, 4_097, any]);
+    bytes[6..8].copy_from_slice(&index.to_le_bytes());
+    bytes
+}
+
+/// Now and then other bytes than a header has: fewer, more, or byte 5 not zero.
+fn spoil(lot: &mut Lot, header: &mut Vec<u8>) {
+    let byte = lot.byte();
+    if lot.one_in(16) {
+        let any = lot.below(40) as usize;
+        header.resize(lot.pick(&[0, 5, 6, 8, 11, 13, 20, any]), lot.pick(&[0, 1, byte]));
+    }
+    if lot.one_in(30) {
+        header.get_mut(5).into_iter().for_each(|zero| *zero = byte);
+    }
+}
+
+/// A table's bytes: mostly silence with some ballots of any station, or ballots all over.
+fn table(lot: &mut Lot, line: &Line, len: usize) -> Vec<u8> {
+    if lot.one_in(4) {
+        return lot.ballots(line, len);
+    }
+    let mut table = vec![SILENCE; len];
+    for _ in 0..lot.below(48).min(4 * len as u64) {
+        table[lot.below(len as u64) as usize] = lot.ballot();
+    }
+    table
+}
+
+/// A line whose bad stations have room for more ballots than a sheet has records.
+fn large(lot: &mut Lot) -> (Header, Line) {
+    let (n, t, upper) = lot.pick(&[(32, 10, 10), (32, 0, 15), (31, 5, 12), (29, 9, 9), (27, 2, 3)]);
+    let line = Line::new(n, t, upper).expect("a line");
+    let fewest = RECORDS / (line.n() * usize::from(line.rounds())) + 1;
+    let more = lot.below((line.n() - fewest) as u64 + 1) as usize;
+    let marks = lot.marks(&line, (fewest + more) as u32);
+    let (sender, value) = (1 + lot.below(line.n() as u64) as u8, lot.below(2) as u8);
+    (Header { n, t, upper, sender, value, marks }, line)
+}
+
+/// A table with just as many records as a sheet can have, or some fewer or more, from any place on. The good stations
+/// speak all the time.
+fn full_table(lot: &mut Lot, line: &Line, marks: Marks) -> Vec<u8> {
+    let ballot = lot.below(u64::from(SILENCE)) as u8;
+    let mut table = vec![ballot; line.table_len()];
+    let mut places: Vec<usize> = line.bad_places(marks).collect();
+    let start = lot.below(places.len() as u64) as usize;
+    places.rotate_left(start);
+    let spoken = lot.pick(&[RECORDS - 1, RECORDS, RECORDS, RECORDS + 1, RECORDS + 1, places.len()]);
+    places.iter().skip(spoken).for_each(|&place| table[place] = SILENCE);
+    table
+}
+
+/// A header's bytes that are accepted and a table of its length, seldom a full one.
+fn of_a_line(lot: &mut Lot) -> (Vec<u8>, Vec<u8>) {
+    let (header, table) = if lot.one_in(120) {
+        let (header, line) = large(lot);
+        (header, full_table(lot, &line, header.marks))
+    } else {
+        let most = most(lot);
+        let header = lot.header(most);
+        let line = header.judge().expect("an accepted header");
+        (header, table(lot, &line, line.table_len()))
+    };
+    (header_bytes(lot, &header), table)
+}
+
+/// A header's bytes and a table, of any kind; and the length of their sheet, if they weren't spoilt.
+fn drawn(lot: &mut Lot) -> (Vec<u8>, Vec<u8>, usize) {
+    let (mut header, mut table) = if lot.one_in(2) {
+        of_a_line(lot)
+    } else {
+        let most = most(lot);
+        let header = lines::header_of(lot, most);
+        let line = lines::line_of((header.n, header.t, header.upper));
+        (header_bytes(lot, &header), table(lot, &line, line.table_len()))
+    };
+    let needed = writer::sheet_len(&header, &table).unwrap_or(LONGEST);
+    spoil(lot, &mut header);
+    let len = lines::len(lot, table.len());
+    table.resize(len, lot.pick(&[0, 1, SILENCE]));
+    (header, table, needed)
+}
+
+/// The length of a lent sheet: mostly the one that is needed.
+pub fn lent_len(lot: &mut Lot, exact: usize) -> usize {
+    let any = lot.below(2 * exact as u64) as usize;
+    match lot.below(10) {
+        0 => exact + 1,
+        1 => exact - 1,
+        2 => lot.pick(&[0, HEADER_LEN, exact + RECORD_LEN, exact - RECORD_LEN, LONGEST + RECORD_LEN, any]),
+        _ => exact,
+    }
+}
+
+pub fn sheet_len(lot: &mut Lot) -> Compared {
+    let (header, table, _) = drawn(lot);
+    sheet_len_of(&header, &table)
+}
+
+pub fn write(lot: &mut Lot) -> Compared {
+    let (header, table, needed) = drawn(lot);
+    let len = lent_len(lot, needed);
+    write_into(&header, &table, &mut Lending::new(lot, "the sheet", len))
+}
+
+fn reading(header: &[u8], table: &[u8]) -> [Reading; 2] {
+    [Reading::new("the header", header), Reading::new("the table", table)]
+}
+
+/// What both calls answer: a number, here of bytes or records.
+fn answer(answer: Result<usize, Cause>) -> u64 {
+    word(answer.map(|number| number as u32), 0)
+}
+
+/// The length of a sheet told by both.
+pub fn sheet_len_of(header: &[u8], table: &[u8]) -> Compared {
+    let mut read = reading(header, table);
+    let ours = answer(writer::sheet_len(header, table));
+    let [first, second] = read.each_mut().map(Reading::handed);
+    let theirs = ffi::sheet_len(first, second);
+    let differs = difference(ours, theirs).or_else(|| fault(ours >> 32 != 0, &[], &read.each_ref()));
+    compared(ours, differs, |told| told.bytes("header", header).bytes("table", table))
+}
+
+/// A sheet written into a lent buffer by both.
+pub fn write_into(header: &[u8], table: &[u8], sheet: &mut Lending) -> Compared {
+    let mut read = reading(header, table);
+    let ours = answer(writer::write(header, table, sheet.ours.bytes()));
+    let [first, second] = read.each_mut().map(Reading::handed);
+    let theirs = ffi::write(first, second, sheet.theirs.handed());
+    let differs = difference(ours, theirs).or_else(|| fault(ours >> 32 != 0, &[sheet], &read.each_ref()));
+    let len = sheet.theirs.bytes().len() as u64;
+    let told = |told: Told| told.bytes("header", header).bytes("table", table).number("sheet length", len);
+    compared(ours, differs, told)
+}
+
+/// A sheet that is accepted, written and read back by the verified calls alone.
+pub fn read_back(lot: &mut Lot) -> Compared {
+    let (header, table, len) = loop {
+        let (header, table) = of_a_line(lot);
+        if let Ok(len) = writer::sheet_len(&header, &table) {
+            break (header, table, len);
+        }
+    };
+    let lent = [len, table.len(), len].map(|len| Lent::new(lot, len));
+    let fault = not_read_back(&header, &table, lent);
+    let told = |what: String| Told::new(&what).bytes("header", &header).bytes("table", &table).text();
+    Compared { number: 0, difference: fault.map(told) }
+}
+
+/// What is wrong with what is read back or rewritten, if anything is.
+fn not_read_back(header: &[u8], table: &[u8], lent: [Lent; 3]) -> Option<String> {
+    let [mut sheet, mut back, mut again] = lent;
+    let mut read = reading(header, table);
+    let [first, second] = read.each_mut().map(Reading::handed);
+    let records = ffi::write(first, second, sheet.handed());
+    let mut written = Reading::new("the sheet", sheet.bytes());
+    let refused = ffi::read(written.handed(), back.handed());
+    let [first, second] = read.each_ref();
+    if let Some(changed) = fault(false, &[], &[first, second, &written]) {
+        return Some(changed);
+    }
+    if refused != 0 || back.bytes() != silenced(header, table) {
+        return Some(format!("another table is read back, or refused by {refused}"));
+    }
+    let [mut first, mut second] = reading(&sheet.bytes()[..HEADER_LEN], back.bytes());
+    let rewritten = ffi::write(first.handed(), second.handed(), again.handed());
+    let same = rewritten == records && again.bytes() == sheet.bytes();
+    (!same).then(|| format!("rewriting changes the sheet: first {records:#x}, then {rewritten:#x}"))
+}
+
+/// A table with silence at the good senders.
+fn silenced(header: &[u8], table: &[u8]) -> Vec<u8> {
+    let Header { n, marks, .. } = sheet::header(header).expect("a header");
+    let mut table = table.to_vec();
+    for (row, from) in table.chunks_exact_mut(n.into()).zip((1..=n).cycle()) {
+        if !marks.bad(from) {
+            row.fill(SILENCE);
+        }
+    }
+    table
+}
