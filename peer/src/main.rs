@@ -22,8 +22,8 @@ Exit status: 0 if it is made, 1 if the sheet is refused or the text is wrong, 2 
 
 Built with the feature verified:
        peer compare [SEED] [TURNS]    the verified calls compared with this program's answers
-       peer fuzz [SEED] [TURNS] [AGREE]
-                                      the same on mutated bytes, and the program agree; TURNS may be seconds: 600s
+       peer fuzz [SEED] [TURNS] [AGREE] [REWRITE]
+                                      the same on mutated bytes, and both programs; TURNS may be seconds: 600s
        peer bench                     how long both take";
 
 fn main() -> ExitCode {
@@ -120,10 +120,11 @@ mod verified {
     }
 
     pub fn fuzz(words: &[String]) -> Option<ExitCode> {
-        let seed = word(words, 0, 3, "1")?.parse().ok()?;
-        let until = Until::new(&word(words, 1, 3, "20000")?)?;
-        let agree = word(words, 2, 3, "../target/bin/agree")?;
-        match Fuzz::new(seed, Path::new(&agree)) {
+        let seed = word(words, 0, 4, "1")?.parse().ok()?;
+        let until = Until::new(&word(words, 1, 4, "20000")?)?;
+        let agree = word(words, 2, 4, "../target/bin/agree")?;
+        let rewrite = word(words, 3, 4, "../target/bin/rewrite")?;
+        match Fuzz::new(seed, Path::new(&agree), Path::new(&rewrite)) {
             Ok(mut fuzz) => {
                 fuzz.run(until);
                 Some(ended(&fuzz.report(), fuzz.failed()))

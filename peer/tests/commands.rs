@@ -29,6 +29,24 @@ fn listing() {
     }
 }
 
+/// Case A with a record of silence and one outside the chain, and what is refused of it.
+#[test]
+fn rewrite() {
+    let mut untidy = CASE_A.to_vec();
+    untidy[6] = 2;
+    untidy.extend([7; 8]);
+    untidy.extend([1, 4, 1, 255, 0, 0, 0, 0]);
+    for sheet in [&CASE_A[..], &untidy] {
+        assert_eq!(peer(&["rewrite"], sheet), (0, CASE_A.to_vec(), String::new()));
+    }
+    untidy[6] = 1;
+    let said = "rewrite: standard input: refused 9: the chain reaches an index above k\n".to_string();
+    assert_eq!(peer(&["rewrite", "-"], &untidy), (1, b"refused 9\n".to_vec(), said));
+    let (status, printed, said) = peer(&["rewrite"], &[0; 32_788]);
+    assert_eq!((status, printed.as_slice()), (1, &b"refused 1\n"[..]));
+    assert!(said.starts_with("rewrite: standard input: refused 1: the sheet's length is not 12 + 8k "));
+}
+
 #[test]
 fn sheet_and_text() {
     assert_eq!(peer(&["sheet"], CASE_A_TEXT.as_bytes()), (0, CASE_A.to_vec(), String::new()));
@@ -91,7 +109,7 @@ fn files() {
 /// A failed read is no sheet: a folder can be opened and not read.
 #[test]
 fn what_cannot_be_read_or_written() {
-    for command in ["listing", "sheet", "text", "draw", "runs"] {
+    for command in ["listing", "sheet", "text", "rewrite", "draw", "runs"] {
         let (status, printed, said) = peer(&[command, env!("CARGO_TARGET_TMPDIR")], &[]);
         assert_eq!((status, printed), (2, vec![]));
         assert!(said.starts_with(&format!("{command}: ")) && said.ends_with("(os error 21)\n"));
@@ -126,7 +144,7 @@ fn commands_that_are_not_built() {
     assert_eq!(peer(&["bench"], &[]), (2, vec![], said));
 }
 
-/// Seed 7 and so many turns of a command that compares nine calls: all pass, without a difference.
+/// Seed 7 and so many turns of a command that compares twelve calls: all pass, without a difference.
 #[cfg(feature = "verified")]
 fn finds_no_difference(command: &str, turns: &str) {
     let (status, printed, said) = peer(&[command, "7", turns], &[]);
@@ -135,7 +153,7 @@ fn finds_no_difference(command: &str, turns: &str) {
     let printed = String::from_utf8(printed).unwrap();
     assert!(
         printed.starts_with(&format!("seed 7, {turns} turns; "))
-            && printed.ends_with("\n9 passed, 0 failed\n")
+            && printed.ends_with("\n12 passed, 0 failed\n")
     );
 }
 
@@ -152,21 +170,30 @@ fn comparing() {
 #[test]
 fn fuzzing() {
     finds_no_difference("fuzz", "300");
-    for words in [&["fuzz", "x"][..], &["fuzz", "1", "2m"], &["fuzz", "1", "1", "a", "b"]] {
+    for words in [&["fuzz", "x"][..], &["fuzz", "1", "2m"], &["fuzz", "1", "1", "a", "b", "c"]] {
         assert_eq!(peer(words, &[]).0, 2);
     }
-    let said = "peer fuzz: nowhere isn't there: ./build agree makes it\n".to_string();
-    assert_eq!(peer(&["fuzz", "1", "1", "nowhere"], &[]), (2, vec![], said));
+    for (words, name) in [(&["nowhere"][..], "agree"), (&[AGREE, "nowhere"], "rewrite")] {
+        let said = format!("peer fuzz: nowhere isn't there: ./build {name} makes it\n");
+        assert_eq!(peer(&[&["fuzz", "1", "1"], words].concat(), &[]), (2, vec![], said));
+    }
 }
 
-/// A program that prints no listing stands for `agree`: this one, which wants a command.
+#[cfg(feature = "verified")]
+const AGREE: &str = "../target/bin/agree";
+
+/// A program that prints no sheet and no listing stands for each program: this one, which wants a command.
 #[cfg(feature = "verified")]
 #[test]
 fn fuzzing_a_wrong_program() {
-    let (status, printed, said) = peer(&["fuzz", "7", "300", env!("CARGO_BIN_EXE_peer")], &[]);
-    let printed = String::from_utf8(printed).unwrap();
-    assert!(status == 1 && printed.ends_with(" inputs with a difference\n8 passed, 1 failed\n"));
-    for words in ["agree: exit status: 2, on standard error ", "\n  sheet, ", "to repeat: peer fuzz 7 "] {
-        assert!(said.contains(words));
+    let wrong = env!("CARGO_BIN_EXE_peer");
+    for (words, name) in [(&[wrong][..], "agree"), (&[AGREE, wrong], "rewrite")] {
+        let (status, printed, said) = peer(&[&["fuzz", "7", "300"], words].concat(), &[]);
+        let printed = String::from_utf8(printed).unwrap();
+        assert!(status == 1 && printed.ends_with(" inputs with a difference\n11 passed, 1 failed\n"));
+        let exit = format!("{name}: exit status: 2, on standard error ");
+        for words in [&exit, "\n  sheet, ", "to repeat: peer fuzz 7 "] {
+            assert!(said.contains(words));
+        }
     }
 }

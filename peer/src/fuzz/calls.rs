@@ -5,10 +5,10 @@ use super::features::{bits, features, of_ballot, of_outcomes, of_result, of_row,
 use super::pool::{Features, Shape};
 use crate::compare::lent::Lending;
 use crate::compare::report::Compared;
-use crate::compare::{lines, reader, stations};
+use crate::compare::{lines, reader, stations, writer};
 use crate::line::{Header, Line, Marks, SILENCE};
 use crate::lot::Lot;
-use crate::sheet::{self, HEADER_LEN, RECORDS, RECORD_LEN};
+use crate::sheet::{self, HEADER_LEN, LONGEST, RECORDS, RECORD_LEN};
 use crate::station::Station;
 
 /// An input compared, and what is told coarsely of it.
@@ -47,6 +47,8 @@ impl Call {
 pub fn linked() -> Vec<Call> {
     vec![
         Call::new("read", Shape::Sheet, 1, &reader::NUMBERS, read),
+        Call::new("sheet_len", Shape::Line, 16, &writer::NUMBERS, sheet_len),
+        Call::new("write", Shape::Line, 8, &writer::NUMBERS, write),
         Call::new("rehearse", Shape::Line, 1, &lines::REHEARSE, rehearse),
         Call::new("exchange", Shape::Line, 1, &lines::EXCHANGE, exchange),
         Call::new("open", Shape::Station, 1, &stations::OPEN, |_, input| open(input)),
@@ -73,7 +75,9 @@ fn rest(input: &[u8], from: usize) -> &[u8] {
 /// So many bytes: these, again from the first where they are too few. Silence of none.
 fn stretched(bytes: &[u8], len: usize) -> Vec<u8> {
     let bytes = if bytes.is_empty() { &[SILENCE] } else { bytes };
-    bytes.iter().copied().cycle().take(len).collect()
+    let mut stretched = bytes.repeat(len.div_ceil(bytes.len()));
+    stretched.truncate(len);
+    stretched
 }
 
 /// A header of any bytes, laid out as in a sheet.
@@ -117,13 +121,49 @@ fn read_table(lot: &mut Lot, input: &[u8], line: &Line) -> Option<Vec<u8>> {
     sheet::read(&sheet(lot, input), &mut table).ok().map(|_| table)
 }
 
-/// A run: half of the time with the sheet's own table, else with one of any bytes.
+/// A run's table: half of the time the sheet's own, else one of any bytes.
+fn table(lot: &mut Lot, input: &[u8], line: &Line) -> Vec<u8> {
+    let read = if lot.one_in(2) { read_table(lot, input, line) } else { None };
+    let len = lines::len(lot, line.table_len());
+    read.unwrap_or_else(|| stretched(rest(input, HEADER_LEN), len))
+}
+
+/// A header to be written, mostly of its length and with byte 5 zero, and its table.
+fn header_and_table(lot: &mut Lot, input: &[u8]) -> (Vec<u8>, Vec<u8>) {
+    let Header { n, t, upper, .. } = header(input);
+    let table = table(lot, input, &lines::line_of((n, t, upper)));
+    let len = lines::len(lot, HEADER_LEN);
+    let mut bytes = stretched(input, len);
+    if !lot.one_in(8) {
+        bytes.get_mut(5).into_iter().for_each(|byte| *byte = 0);
+    }
+    (bytes, table)
+}
+
+fn sheet_len(lot: &mut Lot, input: &[u8]) -> Tried {
+    let (header, table) = header_and_table(lot, input);
+    let [n] = first(&header);
+    let len = crate::writer::sheet_len(&header, &table).ok();
+    let accepted = len.map(|len| features(&[bits(n.into()), bits(len)]));
+    tried(writer::sheet_len_of(&header, &table), n, accepted)
+}
+
+fn write(lot: &mut Lot, input: &[u8]) -> Tried {
+    let (header, table) = header_and_table(lot, input);
+    let [n] = first(&header);
+    let needed = crate::writer::sheet_len(&header, &table).unwrap_or(LONGEST);
+    let len = writer::lent_len(lot, needed);
+    let mut sheet = Lending::new(lot, "the sheet", len);
+    let compared = writer::write_into(&header, &table, &mut sheet);
+    let accepted = compared.number == 0;
+    tried(compared, n, accepted.then(|| of_sheet(sheet.ours.bytes())))
+}
+
+/// A run of the header's line.
 fn rehearse(lot: &mut Lot, input: &[u8]) -> Tried {
     let header = header(input);
     let line = lines::line_of((header.n, header.t, header.upper));
-    let read = if lot.one_in(2) { read_table(lot, input, &line) } else { None };
-    let len = lines::len(lot, line.table_len());
-    let table = read.unwrap_or_else(|| stretched(rest(input, HEADER_LEN), len));
+    let table = table(lot, input, &line);
     let [log, outcomes] = [line.table_len(), line.outcomes_len()].map(|exact| lines::len(lot, exact));
     let mut log = Lending::new(lot, "the log", log);
     let mut outcomes = Lending::new(lot, "the outcomes", outcomes);
@@ -216,8 +256,10 @@ mod tests {
         let found = |call: Call| planted::found(0, || (call.give)(&mut Lot(1), sheet).compared);
         let found: Vec<Vec<&str>> = linked().into_iter().map(found).collect();
         let (row, table) = (vec!["the row"], vec!["the table"]);
-        let expected = [vec!["the sheet"], table, vec!["the table", "the inputs"], vec![], vec![]];
-        assert_eq!(found, [&expected[..], &[row.clone(), row, vec![]]].concat());
+        let written = vec!["the table", "the header"];
+        let read = [vec!["the sheet"], written.clone(), written, table, vec!["the table", "the inputs"]];
+        let stations = [vec![], vec![], row.clone(), row, vec![]];
+        assert_eq!(found, [read, stations].concat());
     }
 
     /// Case A as it stands, and as a station in its first round.
@@ -234,8 +276,9 @@ mod tests {
             all.iter().map(|compared| compared.number).collect::<Vec<u8>>()
         };
         let seeds = 0..40;
-        assert!(seeds.clone().any(|seed| numbers(sheet, seed) == [0, 0, 0, 0, 7, 7, 7, 7]));
-        assert!(seeds.clone().any(|seed| numbers(&opened, seed)[3..] == [0, 0, 0, 0, 0]));
-        assert!(seeds.clone().any(|seed| numbers(&opened, seed)[5..7] == [8, 8]));
+        assert!(seeds.clone().any(|seed| numbers(sheet, seed) == [0, 0, 0, 0, 0, 0, 7, 7, 7, 7]));
+        assert!(seeds.clone().any(|seed| numbers(sheet, seed)[1..3] == [0, 8]));
+        assert!(seeds.clone().any(|seed| numbers(&opened, seed)[5..] == [0, 0, 0, 0, 0]));
+        assert!(seeds.clone().any(|seed| numbers(&opened, seed)[7..9] == [8, 8]));
     }
 }

@@ -1,5 +1,5 @@
 //! A fuzz of the verified implementation: bytes mutated from a pool are given to each of its calls and to its
-//! program, and the answers compared with this implementation's. An input that makes an answer of a kind not
+//! programs, and the answers compared with this implementation's. An input that makes an answer of a kind not
 //! seen before joins the pool, so that the fuzz finds its way past the refusals.
 
 mod calls;
@@ -58,10 +58,11 @@ pub struct Fuzz {
 }
 
 impl Fuzz {
-    /// Every exported call, and the program `agree`. An error where the program isn't there.
-    pub fn new(seed: u64, agree: &Path) -> Result<Fuzz, String> {
+    /// Every exported call, and the programs `agree` and `rewrite`. An error where a program isn't there.
+    pub fn new(seed: u64, agree: &Path, rewrite: &Path) -> Result<Fuzz, String> {
         let mut calls = calls::linked();
         calls.push(program::agree(agree)?);
+        calls.push(program::rewrite(rewrite)?);
         Ok(Fuzz::of(seed, calls, &SEEDS))
     }
 
@@ -167,7 +168,7 @@ mod tests {
     }
 
     /// This implementation's reader stands for the verified one too. Each answer is counted here as well.
-    fn itself(counts: &Rc<RefCell<[u64; 14]>>) -> Call {
+    fn itself(counts: &Rc<RefCell<[u64; 15]>>) -> Call {
         let counts = counts.clone();
         Call::new("itself", Shape::Sheet, 1, &reader::NUMBERS, move |lot, input| {
             let len = reader::table_len(lot, input);
@@ -182,7 +183,7 @@ mod tests {
 
     #[test]
     fn nothing_is_found_where_nothing_differs() {
-        let counts = Rc::new(RefCell::new([0; 14]));
+        let counts = Rc::new(RefCell::new([0; 15]));
         let mut fuzz = Fuzz::of(1, vec![itself(&counts)], &SEEDS);
         fuzz.run(Until::Turns(5_000));
         let report = fuzz.report();

@@ -1,4 +1,4 @@
-//! The program `agree`: an input on standard input, its listing on standard output.
+//! The programs `agree` and `rewrite`: a sheet on standard input, its listing or its normal form on standard output.
 
 use std::io::Write;
 use std::path::{Path, PathBuf};
@@ -10,31 +10,44 @@ use super::pool::Shape;
 use crate::compare::input::Told;
 use crate::compare::report::Compared;
 use crate::line::Cause;
-use crate::listing::{listing, run};
+use crate::listing::listing;
 use crate::lot::Lot;
+use crate::sheet::records;
+use crate::writer::rewritten;
 
-/// The numbers that a listing can tell.
+/// The numbers that both programs can tell: the reader's without a lent table.
 const NUMBERS: [u8; 12] = [0, 1, 2, 3, 4, 5, 6, 9, 10, 11, 12, 13];
 
-/// The program as a call. It is a process each time, so few inputs are given to it.
+/// What a program must print of a sheet.
+type Wanted = fn(&[u8]) -> Vec<u8>;
+
 pub fn agree(program: &Path) -> Result<Call, String> {
-    if !program.is_file() {
-        return Err(format!("{} isn't there: ./build agree makes it", program.display()));
-    }
-    let program: PathBuf = program.into();
-    let give = move |lot: &mut Lot, input: &[u8]| compare(&program, &sheet(lot, input));
-    Ok(Call::new("agree", Shape::Sheet, 64, &NUMBERS, give))
+    call("agree", program, 64, |sheet| listing(sheet).into_bytes())
 }
 
-fn compare(program: &Path, sheet: &[u8]) -> Tried {
-    let number = run(sheet).map_or_else(Cause::number, |_| 0);
-    let wanted = listing(sheet);
+pub fn rewrite(program: &Path) -> Result<Call, String> {
+    call("rewrite", program, 128, rewritten)
+}
+
+/// A program as a call. It is a process each time, so few inputs are given to it.
+fn call(name: &'static str, program: &Path, one_in: u64, wanted: Wanted) -> Result<Call, String> {
+    if !program.is_file() {
+        return Err(format!("{} isn't there: ./build {name} makes it", program.display()));
+    }
+    let program: PathBuf = program.into();
+    let give = move |lot: &mut Lot, input: &[u8]| compare(&program, &sheet(lot, input), wanted);
+    Ok(Call::new(name, Shape::Sheet, one_in, &NUMBERS, give))
+}
+
+fn compare(program: &Path, sheet: &[u8], wanted: Wanted) -> Tried {
+    let number = records(sheet).map_or_else(Cause::number, |_| 0);
+    let wanted = wanted(sheet);
     let fault = match started(program, sheet) {
         Ok(output) => fault(&output, &wanted),
         Err(error) => Some(format!("the program can't be run: {error}")),
     };
     let told = |what: String| Told::new(&what).bytes("sheet", sheet).text();
-    let sum = wanted.bytes().fold(0u8, |sum, byte| sum.rotate_left(3) ^ byte);
+    let sum = wanted.iter().fold(0u8, |sum, byte| sum.rotate_left(3) ^ byte);
     Tried { compared: Compared { number, difference: fault.map(told) }, features: features(&[sum % 16]) }
 }
 
@@ -49,14 +62,14 @@ fn started(program: &Path, sheet: &[u8]) -> std::io::Result<Output> {
 }
 
 /// What is wrong with what the program gives, if anything is.
-fn fault(output: &Output, wanted: &str) -> Option<String> {
+fn fault(output: &Output, wanted: &[u8]) -> Option<String> {
     let Output { status, stdout, stderr } = output;
     if !status.success() || !stderr.is_empty() {
         let said = String::from_utf8_lossy(stderr);
         return Some(format!("{status}, on standard error {said:?}"));
     }
-    let printed = String::from_utf8_lossy(stdout);
-    (stdout != wanted.as_bytes()).then(|| format!("peer lists {wanted:?}, agree {printed:?}"))
+    let [wanted_text, printed] = [wanted, stdout].map(|bytes| bytes.escape_ascii());
+    (stdout != wanted).then(|| format!("peer prints \"{wanted_text}\", the program \"{printed}\""))
 }
 
 #[cfg(test)]
@@ -71,19 +84,23 @@ mod tests {
 
     #[test]
     fn what_is_found_in_an_output() {
-        assert_eq!(fault(&output(0, "refused 1\n", ""), "refused 1\n"), None);
-        let other = fault(&output(0, "refused 1", ""), "refused 1\n").unwrap();
-        assert_eq!(other, r#"peer lists "refused 1\n", agree "refused 1""#);
-        assert!(fault(&output(0, "refused 1\n", "x"), "refused 1\n").is_some());
-        assert!(fault(&output(256, "refused 1\n", ""), "refused 1\n").is_some());
-        assert!(fault(&output(11, "refused 1\n", ""), "refused 1\n").is_some());
+        let wanted = b"refused 1\n";
+        assert_eq!(fault(&output(0, "refused 1\n", ""), wanted), None);
+        let other = fault(&output(0, "refused 1", ""), wanted).unwrap();
+        assert_eq!(other, r#"peer prints "refused 1\n", the program "refused 1""#);
+        assert!(fault(&output(0, "refused 1\n", "x"), wanted).is_some());
+        assert!(fault(&output(256, "refused 1\n", ""), wanted).is_some());
+        assert!(fault(&output(11, "refused 1\n", ""), wanted).is_some());
+        let other = fault(&output(0, "\x04\x01", ""), &[4, 255]).unwrap();
+        assert_eq!(other, r#"peer prints "\x04\xff", the program "\x04\x01""#);
     }
 
     #[test]
     fn a_program_that_is_not_there() {
-        let error = agree(Path::new("no such program")).err();
-        assert_eq!(error.unwrap(), "no such program isn't there: ./build agree makes it");
-        let tried = compare(Path::new("./no such program"), &[]);
+        for (call, name) in [(agree(Path::new("none")), "agree"), (rewrite(Path::new("none")), "rewrite")] {
+            assert_eq!(call.err().unwrap(), format!("none isn't there: ./build {name} makes it"));
+        }
+        let tried = compare(Path::new("./none"), &[], rewritten);
         assert!(tried.compared.difference.unwrap().starts_with("the program can't be run: "));
     }
 }
