@@ -6,12 +6,13 @@ use std::hint::black_box;
 
 use crate::exchange::alone;
 use crate::ffi::{self, Handed, ReadOnly};
-use crate::line::{Header, Line, Marks};
+use crate::line::{Header, Line, Marks, SILENCE};
 use crate::lot::Lot;
 use crate::rehearsal::rehearse;
-use crate::sheet::{self, Record, RECORDS};
+use crate::sheet::{self, Record, HEADER_LEN, RECORDS, RECORD_LEN};
 use crate::station::Station;
 use crate::timing::{sample, time_in_turn, Nanoseconds, Sample};
+use crate::writer;
 
 const SAMPLES: usize = 401;
 
@@ -39,7 +40,7 @@ fn line(name: &str, [verified, peer, floor]: [Nanoseconds; 3]) -> String {
     let ratio = |a: Nanoseconds, b: Nanoseconds| a.median / b.median;
     let times = format!("{:>11.1}{:>11.1}{:>11.1}", verified.median, peer.median, floor.median);
     let ratios = [ratio(verified, peer), ratio(verified, floor), ratio(peer, floor)];
-    format!("{name:<36}{times}{:>15.2}{:>16.2}{:>12.2}", ratios[0], ratios[1], ratios[2])
+    format!("{name:<40}{times}{:>15.2}{:>16.2}{:>12.2}", ratios[0], ratios[1], ratios[2])
 }
 
 /// A rehearsal. The floor is copying the log.
@@ -120,6 +121,43 @@ fn reader(count: usize) -> [Nanoseconds; 3] {
     timed
 }
 
+/// A table of the largest line with this many records to write, in the first places of its marked senders or scattered over
+/// all of them. Its good senders speak all the time.
+fn table_of(count: usize, bad: u8, scattered: bool) -> (Vec<u8>, Vec<u8>) {
+    let (header, line) = largest(bad);
+    let mut table = Lot(1).ballots(&line, line.table_len());
+    let mut places: Vec<usize> = line.bad_places(header.marks).collect();
+    if scattered {
+        Lot(2).shuffle(&mut places);
+    }
+    let (spoken, silent) = places.split_at(count);
+    spoken.iter().for_each(|&place| table[place] %= 3);
+    silent.iter().for_each(|&place| table[place] = SILENCE);
+    (sheet::write(&header, &[]), table)
+}
+
+/// Writing a sheet. The floor is copying the table.
+fn written(count: usize, bad: u8, scattered: bool) -> [Nanoseconds; 3] {
+    let (header, table) = table_of(count, bad, scattered);
+    let (mut handed_header, mut handed, mut copied) = (header.clone(), table.clone(), table.clone());
+    let mut sheets = [0, 1].map(|_| vec![0; HEADER_LEN + RECORD_LEN * count]);
+    let [sheet, own_sheet] = &mut sheets;
+    let timed = time_in_turn(
+        SAMPLES,
+        [
+            sample(|| {
+                let header = ReadOnly(Handed::all(black_box(&mut handed_header)));
+                let table = ReadOnly(Handed::all(black_box(&mut handed)));
+                ffi::write(header, table, Handed::all(sheet))
+            }),
+            sample(|| writer::write(black_box(&header), black_box(&table), own_sheet)),
+            copy(&table, &mut copied),
+        ],
+    );
+    assert!(sheets[0] == sheets[1] && sheets[0][0] != 0, "the sheets differ");
+    timed
+}
+
 /// A station of the largest line takes a row in this round. The floor is copying the row.
 fn step(round: u8) -> [Nanoseconds; 3] {
     let (header, line) = largest(10);
@@ -145,7 +183,7 @@ fn step(round: u8) -> [Nanoseconds; 3] {
 pub fn report(say: &mut impl FnMut(String)) {
     let times = format!("{:>11}{:>11}{:>11}", "verified", "peer", "copying");
     let ratios = format!("{:>15}{:>16}{:>12}", "verified/peer", "verified/copy", "peer/copy");
-    say(format!("{:<36}{times}{ratios}", "median nanoseconds, and their ratios"));
+    say(format!("{:<40}{times}{ratios}", "median nanoseconds, and their ratios"));
     for (n, some) in [(32, 10), (31, 10), (24, 7), (16, 5), (7, 2)] {
         for bad in [0, some, n] {
             say(line(&format!("rehearsal, n {n}, t {}, {bad} marked", (n - 1) / 3), rehearsal(n, bad)));
@@ -156,6 +194,12 @@ pub fn report(say: &mut impl FnMut(String)) {
     }
     for count in [RECORDS, 0] {
         say(line(&format!("reader, n 32, t 10, {count} records"), reader(count)));
+    }
+    for (count, bad, scattered) in [(RECORDS, 10, false), (RECORDS, 10, true), (0, 10, false), (0, 0, false)]
+    {
+        let how = if scattered { "scattered" } else { "records" };
+        let name = format!("writer, n 32, {bad} marked, {count} {how}");
+        say(line(&name, written(count, bad, scattered)));
     }
     for (round, name) in [(1, "sender's"), (2, "exchange's first"), (3, "exchange's second"), (4, "king's")] {
         say(line(&format!("station, row of 32, {name}"), step(round)));
