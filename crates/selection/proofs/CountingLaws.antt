@@ -4,12 +4,13 @@ use mathlib.Core.Path.{_≡_, refl, sym, _∙_}
 use mathlib.Core.Bool.{Bool, true, false, not, _&&_}
 use mathlib.Core.Logic.{_≢_}
 use mathlib.Core.List.{List}
-use native.Mathlib.Nat.{add-zero, add-suc, add-assoc, add-mul, zero-mul, mul-le-mul-right}
+use native.Mathlib.Nat.{add-zero, add-suc, add-assoc, add-mul, suc-mul, zero-mul, le-refl, mul-le-mul-right}
+use native.Mathlib.Decide.{le-ind}
 use native.Mathlib.Numerals.{add-one}
 use native.Mathlib.Omega.{arith}
 use lib.Dec.{eqb}
 use lib.ListN.{length, getD}
-use borrow.Author.Tests.{eq-eqb, ne-eqb}
+use borrow.Author.Tests.{le-leb, lt-leb, eq-eqb, ne-eqb}
 use Rattle.line.specs.Count.{if_then_else_, count}
 use Rattle.line.specs.Marks.{marked}
 use Rattle.line.specs.Line.{table-length, place}
@@ -19,6 +20,7 @@ use Rattle.line.proofs.LineLaws.{next-row, row-within, place-from-start, place-
 use Rattle.layout.specs.declared.Header.{Header}
 use Rattle.selection.specs.Places.{from-at, to-write, how-many}
 use Rattle.selection.specs.Counted.{counted}
+use Rattle.selection.specs.Leaps.{First}
 use Rattle.selection.specs.Loops.{Row, Round, spoken, speaks, More}
 
 -- ---- counting on from a place
@@ -60,14 +62,32 @@ module _ (n marks : ℕ) (table : List ℕ) (i at : ℕ) (row : Row n i at) wher
 
 -- ---- rows and rounds, one after the other
 
-pub more-none : (q : ℕ → Bool) (at n : ℕ) → More q at (at + 0 * n) 0
-more-none q at n = rw (zero-mul, add-zero at) (omega arith)
+module _ (n marks : ℕ) (table : List ℕ) (at : ℕ) (round : Round n at) where
+  -- rows of stations that are not marked have nothing to be written
+  pub skip : (a r : ℕ) → a ≤ r → r ≤ n → ((j : ℕ) → a ≤ j → j < r → marked marks j ≡ false) → More (to-write n marks table) (at + a * n) (at + r * n) 0
+  skip a r h most none =
+      le-ind (λ (k : ℕ). k ≤ r → More (to-write n marks table) (at + a * n) (at + k * n) 0)
+      (λ l. omega arith)
+      (λ k l ih m.
+      let e : at + suc k * n ≡ at + k * n + n = omega (arith, suc-mul k n) in
+      let row = row-unmarked n marks table k (at + k * n) (round k (omega arith)) n (none k l (omega arith)) (le-refl n) in
+      rw e (omega (arith, ih (omega arith), row)))
+      r h (le-refl r)
 
--- a row more
-pub more-row : (q : ℕ → Bool) (at i n k r : ℕ) → More q at (at + i * n) k → More q (at + i * n) (at + i * n + n) r → More q at (at + (i + 1) * n) (k + r)
-more-row q at i n k r a b =
-    let e : at + (i + 1) * n ≡ at + i * n + n = omega (arith, next-row i n) in
-    rw e (omega (arith, a, b))
+  -- up to the first marked one
+  pub leap-first : (r : ℕ) → First marks n 0 r → More (to-write n marks table) at (at + r * n) 0
+  leap-first r f =
+      let z : at + 0 * n ≡ at = omega (arith, zero-mul n) in
+      rw z at (skip 0 r (f .low) (f .high) (f .between))
+
+  -- a marked station's row, and up to the next marked one
+  pub leap-on : (i k c r : ℕ) → i < n → marked marks i ≡ true → More (to-write n marks table) at (at + i * n) k → c ≡ count n (speaks table (at + i * n))
+      → First marks n (i + 1) r → More (to-write n marks table) at (at + r * n) (k + c)
+  leap-on i k c r l m before e f =
+      let here = row-marked n marks table i (at + i * n) (round i l) n m (le-refl n) in
+      let z : at + (i + 1) * n ≡ at + i * n + n = omega (arith, next-row i n) in
+      let further = rw z at (skip (i + 1) r (f .low) (f .high) (f .between)) in
+      omega (arith, before, here, e, further)
 
 -- the rounds' places
 pub round-rows : (n r : ℕ) → Round n (r * n * n)
@@ -90,14 +110,20 @@ round-within n r last h = rw (← next-round n r) (mul-le-mul-right n (mul-le-mu
 -- ---- what the call answers
 
 module _ (h : Header) (table : List ℕ) where
-  pub counted-none : length table ≢ table-length (h .n) (h .t) → 0 ≡ counted h table
+  pub counted-large : 32 < h .n → 0 ≡ counted h table
   unfolding counted
-  counted-none e = rw (ne-eqb (length table) (table-length (h .n) (h .t)) e)
+  counted-large l = rw (lt-leb (h .n) 32 l)
 
-  pub counted-all : length table ≡ table-length (h .n) (h .t) → counted h table ≡ how-many h table
-  unfolding counted
-  counted-all e = rw (eq-eqb (length table) (table-length (h .n) (h .t)) e)
+  module _ (few : h .n ≤ 32) where
+    pub counted-none : length table ≢ table-length (h .n) (h .t) → 0 ≡ counted h table
+    unfolding counted
+    counted-none e = rw (le-leb (h .n) 32 few, ne-eqb (length table) (table-length (h .n) (h .t)) e)
 
-  pub counted-is : (r : ℕ) → length table ≡ table-length (h .n) (h .t) → r ≡ count (table-length (h .n) (h .t)) (to-write (h .n) (h .marks) table) → r ≡ counted h table
-  unfolding how-many
-  counted-is r e q = q ∙ sym (counted-all e)
+    pub counted-all : length table ≡ table-length (h .n) (h .t) → counted h table ≡ how-many h table
+    unfolding counted
+    counted-all e = rw (le-leb (h .n) 32 few, eq-eqb (length table) (table-length (h .n) (h .t)) e)
+
+    pub counted-is : (r : ℕ) → length table ≡ table-length (h .n) (h .t) → r ≡ count (table-length (h .n) (h .t)) (to-write (h .n) (h .marks) table)
+        → r ≡ counted h table
+    unfolding how-many
+    counted-is r e q = q ∙ sym (counted-all e)

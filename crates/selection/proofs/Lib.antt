@@ -2,6 +2,7 @@
 -- round, sender and receiver. CountingLaws has what the code counts.
 pub mod RankLaws
 pub mod PlaceLaws
+pub mod LeapLaws
 pub mod CountingLaws
 pub mod OrderLaws
 pub mod Theorems

@@ -1,13 +1,15 @@
 -- What `count` answers.
 use Prim.Native.Nat.{ℕ}
+use mathlib.Core.Bool.{_&&_}
 use mathlib.Core.List.{List}
-use lib.Dec.{eqb}
+use lib.Dec.{leb, eqb}
 use lib.ListN.{length}
 use Rattle.line.specs.Count.{if_then_else_}
-use Rattle.line.specs.Line.{table-length}
+use Rattle.line.specs.Line.{most-stations, table-length}
 use Rattle.layout.specs.declared.Header.{Header}
 use Rattle.selection.specs.Places.{how-many}
 
--- how many bytes are to be written, of a table of the line's length; of any other none
+-- how many bytes are to be written, in a line of at most 32 stations and of a table of its length; otherwise none
 unfoldable pub counted : Header → List ℕ → ℕ
-counted h table = if eqb (length table) (table-length (h .n) (h .t)) then how-many h table else 0
+counted h table =
+    if leb (h .n) most-stations && eqb (length table) (table-length (h .n) (h .t)) then how-many h table else 0

@@ -1,6 +1,7 @@
--- Which bytes of a run table are written to a sheet, and in which order (document 02, Ticket 1): Places has the definitions, Counted what the call promises,
--- Theorems what is shown of the definitions; Loops is for private functions only.
+-- Which bytes of a run table are written to a sheet, and in which order (document 02, Ticket 1): Places has the definitions, Counted and Leaps what the calls
+-- promise, Theorems what is shown of the definitions; Loops is for private functions only.
 pub mod Places
 pub mod Counted
+pub mod Leaps
 pub mod Theorems
 pub mod Loops

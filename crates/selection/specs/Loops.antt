@@ -1,5 +1,5 @@
 -- What the private functions do: for their contracts, and no part of what the public call promises.
-use Prim.Native.Nat.{ℕ, _+_, _*_, _<_}
+use Prim.Native.Nat.{ℕ, _+_, _*_, _≤_, _<_}
 use mathlib.Core.Path.{_≡_}
 use mathlib.Core.Bool.{Bool, not}
 use mathlib.Core.List.{List}
@@ -21,7 +21,7 @@ Round n at = (i : ℕ) → i < n → Row n i (at + i * n)
 
 -- a table of so many rounds
 pub record Whole (n last : ℕ) (table : List ℕ) : Type 0 where
-  pub few : n < 256
+  pub few : n ≤ 32
   pub whole : length table ≡ last * n * n
 
 -- ---- counting

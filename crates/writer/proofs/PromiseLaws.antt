@@ -34,7 +34,10 @@ use Rattle.writer.specs.declared.Writing.the-variants as writing
 use Rattle.selection.specs.Places.{to-write, how-many}
 use Rattle.selection.specs.Counted.{counted}
 use Rattle.selection.proofs.CountingLaws.{counted-all}
-use Rattle.writer.specs.Sheet.{header-bytes, records-bytes, sheet, sheet-length}
+use Rattle.record.specs.Bytes.{header-bytes}
+use Rattle.record.specs.Put.{header-in}
+use Rattle.record.proofs.PutLaws.{header-there}
+use Rattle.writer.specs.Sheet.{records-bytes, sheet, sheet-length}
 use Rattle.writer.specs.Judgement.{header-length, header-and-table, too-many, before-buffer, write-verdict}
 use Rattle.writer.specs.Writing.{need-number, need-values, need-by, writing-number, writing-values, writing-by, Needs, Writes}
 use Rattle.writer.specs.Loops.{Ready, Unrefused, Goes-on}
@@ -83,7 +86,7 @@ module _ (h : List ℕ) (l : ℕ) (e : header-and-table h l ≡ verdict.Accepted
 module _ (h table : List ℕ) where
   -- what is counted is what is to be written
   pub taken-counted : header-and-table h (length table) ≡ verdict.Accepted → counted (header h) table ≡ how-many (header h) table
-  taken-counted e = counted-all (header h) table (taken-length h (length table) e)
+  taken-counted e = counted-all (header h) table (taken-sound h (length table) e .most) (taken-length h (length table) e)
 
   -- what is not refused before the buffer is looked at
   before-both : before-buffer h table ≡ verdict.Accepted → (header-and-table h (length table) ≡ verdict.Accepted) × (too-many h table ≡ verdict.Accepted)
@@ -243,7 +246,8 @@ module _ (h table : List ℕ) where
       rw z at (sym (laid-append (header-bytes h k) recs s 0)) ∙ sym front ∙ rw (drop-length, append-nil) (parts-whole h table k is)
 
   -- as the parts are put one after the other
-  pub sheet-put : (s₀ s₁ s₂ : List ℕ) (k : ℕ) (g : Header) → Unrefused h table s₀ k → g ≡ header h → s₁ ≡ laid s₀ 0 (header-bytes h k)
+  pub sheet-put : (s₀ s₁ s₂ : List ℕ) (k : ℕ) (g : Header) → Unrefused h table s₀ k → g ≡ header h → s₁ ≡ header-in s₀ h k
       → Goes-on g table k s₁ 0 s₂ k → s₂ ≡ sheet h table
   sheet-put s₀ s₁ s₂ k g u e a b =
-      b s₁ (records-none g table k s₁) ∙ rw (e, a) (sheet-laid s₀ k (u .ready .all) (u .ready .room))
+      b s₁ (records-none g table k s₁)
+      ∙ rw (e, a, header-there s₀ h k (u .twelve) (omega (arith, u .ready .room))) (sheet-laid s₀ k (u .ready .all) (u .ready .room))

@@ -4,7 +4,7 @@ use mathlib.Core.Path.{_≡_, refl, sym, ap, _∙_}
 use mathlib.Core.Bool.{Bool, true, false, not, _&&_}
 use mathlib.Core.Logic.{_≢_, ⊎-elim}
 use mathlib.Core.List.{List, [], _∷_, _++_}
-use native.Mathlib.Nat.{zero-mul, mul-le-mul}
+use native.Mathlib.Nat.{zero-mul, mul-le-mul, mul-le-mul-right, eq-or-lt-of-le}
 use native.Mathlib.Numerals.{add-one}
 use native.Mathlib.Omega.{arith}
 use lib.Dec.{eqb}
@@ -15,14 +15,17 @@ use Rattle.line.specs.Line.{from-0, rounds, table-length, place, largest-table}
 use Rattle.line.specs.Marks.{marked}
 use Rattle.line.specs.Ballot.{silence}
 use Rattle.line.proofs.CountLaws.{count-hit, count-miss, widen}
-use Rattle.line.proofs.LineLaws.{place-below, place-from-start, place-round, place-from, place-to}
+use Rattle.line.proofs.LineLaws.{next-row, place-below, place-from-start, place-round, place-from, place-to}
 use Rattle.text.specs.Laid.{laid}
 use Rattle.text.proofs.LaidLaws.{laid-append}
 use Rattle.layout.specs.declared.Header.{Header}
+use Rattle.record.specs.Bytes.{eight}
 use Rattle.selection.specs.Places.{round-at, from-at, to-at, to-write, how-many, place-written}
-use Rattle.writer.specs.Sheet.{low, high, next-index, record-of, record-bytes, records-bytes}
-use Rattle.selection.specs.Loops.{Row, spoken}
-use Rattle.writer.specs.Loops.{put-at, Goes-on, Ready, Of-sender}
+use Rattle.writer.specs.Sheet.{next-index, record-of, record-bytes, records-bytes}
+use Rattle.selection.specs.Leaps.{First}
+use Rattle.selection.specs.Loops.{Round, spoken}
+use Rattle.selection.proofs.CountingLaws.{round-rows, skip, leap-first}
+use Rattle.writer.specs.Loops.{put-at, Goes-on, Ready, Of-sender, Of-round}
 use Rattle.selection.proofs.RankLaws.{ranked-back}
 use Rattle.writer.proofs.PutLaws.{spoken-none, spoken-one, put-none, put-one}
 
@@ -30,7 +33,7 @@ module _ (h : Header) (table : List ℕ) (k : ℕ) where
   -- ---- lengths
 
   pub record-length : (m : ℕ) → length (record-bytes h table k m) ≡ 8
-  unfolding record-bytes record-of
+  unfolding record-bytes record-of eight
   record-length m = refl
 
   pub records-length : (m : ℕ) → length (records-bytes h table k m) ≡ 8 * m
@@ -75,10 +78,6 @@ module _ (h : Header) (table : List ℕ) (k : ℕ) where
     pub place-inside : at + j < table-length (h .n) (h .t)
     place-inside = rw place-here (place-below (h .n) round (from - 1) j (here .round-low) from-here l (rounds (h .t)) (here .round-high))
 
-  -- its bytes are a row
-  pub sender-row : (round from at : ℕ) → Of-sender h round from at → Row (h .n) (from - 1) at
-  sender-row round from at here j l = from-told round from at here j l
-
   -- ---- the byte of a marked sender
 
   module _ (round from at : ℕ) (here : Of-sender h round from at) (bad : marked (h .marks) (from-0 from) ≡ true) (j : ℕ) (l : j < h .n) where
@@ -120,7 +119,7 @@ module _ (h : Header) (table : List ℕ) (k : ℕ) where
     -- its record is the one after those before it
     record-here : getD table (at + j) 0 ≢ 255 → (m : ℕ) → m ≡ count (at + j) (to-write (h .n) (h .marks) table)
         → record-bytes h table k (m + 1)
-        ≡ round ∷ from ∷ (j + 1) ∷ getD table (at + j) 0 ∷ low (next-index k (m + 1)) ∷ high (next-index k (m + 1)) ∷ 0 ∷ 0 ∷ []
+        ≡ eight round from (j + 1) (getD table (at + j) 0) (next-index k (m + 1))
     unfolding record-bytes record-of place-written
     record-here e m c =
         let q = to-write (h .n) (h .marks) table in
@@ -177,3 +176,61 @@ table-short h table sheet k at m r = mul-le-mul (mul-le-mul (r .short) (r .few))
 pub all-counted : (h : Header) (table : List ℕ) (at : ℕ) → at ≡ table-length (h .n) (h .t) → count at (to-write (h .n) (h .marks) table) ≡ how-many h table
 unfolding how-many
 all-counted h table at e = rw e
+
+-- ---- from one marked station to the next
+
+module _ (h : Header) (table : List ℕ) (round at : ℕ) (here : Of-round h round at) where
+  round-start : at ≡ (round - 1) * h .n * h .n
+  round-start = omega (arith, here .at-is, place-from-start (h .n) round 0 0, zero-mul (h .n))
+
+  round-is : Round (h .n) at
+  round-is = rw round-start (round-rows (h .n) (round - 1))
+
+  -- before the first
+  pub leapt-first : (r m : ℕ) → First (h .marks) (h .n) 0 r → m ≡ count at (to-write (h .n) (h .marks) table)
+      → m ≡ count (at + r * h .n) (to-write (h .n) (h .marks) table)
+  leapt-first r m f e = omega (arith, e, leap-first (h .n) (h .marks) table at round-is r f)
+
+  -- after station i
+  pub leapt-on : (i r m : ℕ) → First (h .marks) (h .n) (i + 1) r → m ≡ count (at + i * h .n + h .n) (to-write (h .n) (h .marks) table)
+      → m ≡ count (at + r * h .n) (to-write (h .n) (h .marks) table)
+  leapt-on i r m f e =
+      let z : at + (i + 1) * h .n ≡ at + i * h .n + h .n = omega (arith, next-row i (h .n)) in
+      let s = rw z at (skip (h .n) (h .marks) table at round-is (i + 1) r (f .low) (f .high) (f .between)) in
+      omega (arith, e, s)
+
+  -- a station's row in the round
+  pub sender-of : (i : ℕ) → i < h .n → Of-sender h round (i + 1) (at + i * h .n)
+  sender-of i l = record {
+    at-is =
+        let z : i + 1 - 1 ≡ i = omega arith in
+        rw z (omega (arith, round-start, place-from-start (h .n) round i 0));
+    round-low = here .round-low;
+    round-high = here .round-high;
+    from-low = omega arith;
+    from-high = omega arith;
+  }
+
+-- ---- the rounds, as long as records are left
+
+module _ (h : Header) (table : List ℕ) (round at done : ℕ) (low : round ≤ rounds (h .t)) (start : at ≡ place (h .n) (round + 1) 0 0)
+    (is : done ≡ count at (to-write (h .n) (h .marks) table)) where
+  at-is : at ≡ round * h .n * h .n
+  at-is = start ∙ rounds-end (h .n) round
+
+  -- no more than all are there
+  pub done-most : done ≤ how-many h table
+  unfolding how-many
+  done-most =
+      let w : at ≤ table-length (h .n) (h .t) = rw at-is (mul-le-mul-right (h .n) (mul-le-mul-right (h .n) low)) in
+      omega (arith, is, widen at (table-length (h .n) (h .t)) (to-write (h .n) (h .marks) table) w)
+
+  -- where not all are there, a round is left
+  pub round-left : done < how-many h table → round < rounds (h .t)
+  round-left l =
+      ⊎-elim
+      (λ (e : round ≡ rounds (h .t)).
+      let f : at ≡ table-length (h .n) (h .t) = at-is ∙ ap (λ (r : ℕ). r * h .n * h .n) e in
+      absurd (omega (arith, is, all-counted h table at f)))
+      (λ (e : round < rounds (h .t)). e)
+      (eq-or-lt-of-le low)

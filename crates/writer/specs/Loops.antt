@@ -1,7 +1,7 @@
 -- What the private functions of the writer do: for their contracts, and no part of what the public calls promise.
 use Prim.Native.Nat.{ℕ, _+_, _*_, _≤_}
 use mathlib.Core.Path.{_≡_}
-use mathlib.Core.List.{List, [], _∷_}
+use mathlib.Core.List.{List}
 use lib.Dec.{eqb}
 use lib.ListN.{length}
 use Rattle.line.specs.Count.{if_then_else_, count}
@@ -10,14 +10,15 @@ use Rattle.line.specs.Ballot.{silence}
 use Rattle.text.specs.Laid.{laid}
 use Rattle.layout.specs.declared.Header.{Header}
 use Rattle.layout.specs.Layout.{header}
+use Rattle.record.specs.Bytes.{eight}
 use Rattle.selection.specs.Places.{to-write, how-many}
-use Rattle.writer.specs.Sheet.{low, high, next-index, records-bytes, sheet}
+use Rattle.writer.specs.Sheet.{next-index, records-bytes, sheet}
 
 -- the sheet with record m + 1 of k in it; as it was where the ballot is silence
 unfoldable pub put-at : List ℕ → (k m round from to ballot : ℕ) → List ℕ
 put-at sheet k m round from to ballot =
     if eqb ballot silence then sheet
-    else laid sheet (12 + 8 * m) (round ∷ from ∷ to ∷ ballot ∷ low (next-index k (m + 1)) ∷ high (next-index k (m + 1)) ∷ 0 ∷ 0 ∷ [])
+    else laid sheet (12 + 8 * m) (eight round from to ballot (next-index k (m + 1)))
 
 -- Wherever records 1 to m₀ were laid after the twelve bytes, records 1 to m₁ are now.
 abbrev pub Goes-on : Header → List ℕ → (k : ℕ) → (sheet₀ : List ℕ) → (m₀ : ℕ) → (sheet₁ : List ℕ) → (m₁ : ℕ) → Type 0

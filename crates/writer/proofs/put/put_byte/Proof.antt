@@ -3,7 +3,7 @@ use borrow.Author.Needs.{needs}
 use native.Mathlib.Omega.{arith}
 use Prim.Native.Nat.{_+_}
 use mathlib.Core.Path.{_≡_, _∙_}
-use Rattle.writer.proofs.PutLaws.{spoken-none, spoken-one, put-none, put-one}
+use Rattle.writer.proofs.PutLaws.{spoken-none, spoken-one, put-none, put-there}
 use Rattle.writer.proofs.put.put_byte.Statement.{statement}
 use Rattle.writer.proofs.put.put_byte.Tie as tie
 
@@ -19,16 +19,14 @@ add-next-index c = search needs
 next-index-requires : tie.Need-next-index-requires
 next-index-requires c κs = search needs
 
-mul-put-record : tie.Need-mul-put-record
-mul-put-record c = search needs
+mul-put : tie.Need-mul-put
+mul-put c = search needs
 
-add-put-record : tie.Need-add-put-record
-add-put-record c = search needs
+add-put : tie.Need-add-put
+add-put c = search needs
 
-put-record-requires : tie.Need-put-record-requires
-put-record-requires c κs =
-    let s = c .before .before .before .before in
-    omega (arith, s .pre .1, s .pre .2, spoken-one (s .args .ballot) (c .before .before .if1 .left))
+put-requires : tie.Need-put-requires
+put-requires c κs = search needs
 
 add-result : tie.Need-add-result
 add-result c = search needs
@@ -41,8 +39,9 @@ returns-2 c =
     let s = c .before .before .before .before .before .before .before in
     let a = s .args in
     let e = c .before .before .before .before .before .if1 .left in
-    let w = put-one (a .ballot) (a .sheet .now) (a .k) (a .m) (a .round) (a .from) (a .to) e in
-    (omega (arith, spoken-one (a .ballot) e), c .before .before .put-record .ensures ∙ rw (c .before .before .before .before .next-index .ensures) w)
+    let one = spoken-one (a .ballot) e in
+    let w = put-there (a .ballot) (a .sheet .now) (a .k) (a .m) (a .round) (a .from) (a .to) e (omega (arith, s .pre .1, s .pre .2, one)) in
+    (omega (arith, one), rw (c .before .before .before .before .next-index .ensures) at (c .before .before .put .ensures) ∙ w)
 
 pub put-byte-spec : {M : Type 1} → statement M
 put-byte-spec =
@@ -51,9 +50,9 @@ put-byte-spec =
     returns
     add-next-index
     next-index-requires
-    mul-put-record
-    add-put-record
-    put-record-requires
+    mul-put
+    add-put
+    put-requires
     add-result
     same-length
     returns-2)

@@ -1,77 +1,97 @@
--- `put::put_round` meets its contract. The loop's invariant: the records of the first i senders are in the sheet.
+-- `put::put_round` meets its contract. The loop's invariant: station i is marked, or none is left, and the records of those before it are in the sheet.
 use borrow.Author.Needs.{needs}
 use native.Mathlib.Omega.{arith}
-use Prim.Native.Nat.{ℕ, _+_, _-_, _*_, _≤_}
-use mathlib.Core.Path.{_≡_, refl, sym, ap, _∙_}
+use Prim.Native.Nat.{ℕ, _+_, _-_, _*_, _≤_, _<_}
+use mathlib.Core.Path.{_≡_, refl, ap, _∙_}
+use mathlib.Core.Bool.{true}
 use lib.ListN.{length}
 use Rattle.line.specs.Count.{count}
-use Rattle.line.specs.Line.{rounds, place}
-use Rattle.line.proofs.LineLaws.{place-below, place-steps}
+use Rattle.line.specs.Marks.{marked}
+use Rattle.line.specs.Line.{rounds}
+use Rattle.line.proofs.LineLaws.{product-fits, place-below}
 use Rattle.selection.specs.Places.{to-write}
 use Rattle.writer.specs.Loops.{Goes-on}
-use Rattle.writer.proofs.RecordLaws.{ready-on, round-end, table-short}
+use Rattle.writer.proofs.RecordLaws.{ready-on, table-short, leapt-first, leapt-on, sender-of}
 use Rattle.writer.proofs.put.put_round.Statement.{statement}
 use Rattle.writer.proofs.put.put_round.Tie as tie
 
 abbrev Inv-loop : tie.InvT-loop
-Inv-loop h table sheet₀ k round at m n done₀ i₀ row₀ sheet done i row =
-    (i ≤ h .n) × (row ≡ place (h .n) round i 0) × (length sheet ≡ length sheet₀) × (done ≡ count row (to-write (h .n) (h .marks) table))
-    × Goes-on h table k sheet₀ m sheet done
+Inv-loop h table sheet₀ to k round at m n done₀ i₀ sheet done i =
+    (i ≤ h .n) × (i < h .n → marked (h .marks) i ≡ true) × (length sheet ≡ length sheet₀)
+    × (done ≡ count (at + i * h .n) (to-write (h .n) (h .marks) table)) × Goes-on h table k sheet₀ m sheet done
 
 abbrev μ-loop : tie.MeasureT-loop
-μ-loop h table sheet₀ k round at m n done₀ i₀ row₀ sheet done i row = h .n - i
+μ-loop h table sheet₀ to k round at m n done₀ i₀ sheet done i = h .n - i
 
 cast-n : tie.Need-cast-n Inv-loop μ-loop
 cast-n c = search needs
 
+element-copy-out-i : tie.Need-element-copy-out-i Inv-loop μ-loop
+element-copy-out-i c = search needs
+
 loop-holds : tie.Need-loop-holds Inv-loop μ-loop
 loop-holds c =
-    let s = c .before .before .before in
-    (omega arith, s .pre .1 .at-is, refl, s .pre .0 .before, λ z e. e)
+    let s = c .before .before .before .before in
+    let a = s .args in
+    let f = s .pre .2 .first (s .pre .0 .few) 0 (omega arith) in
+    (f .high, f .there, refl, leapt-first (a .h) (a .table .now) (a .round) (a .at) (s .pre .1) _ (a .m) f (s .pre .0 .before), λ z e. e)
 
-add-put-sender : tie.Need-add-put-sender Inv-loop μ-loop
-add-put-sender c = search needs
+add-put-row : tie.Need-add-put-row Inv-loop μ-loop
+add-put-row c = search needs
 
-put-sender-requires : tie.Need-put-sender-requires Inv-loop μ-loop
-put-sender-requires c κs =
+cast-put-row : tie.Need-cast-put-row Inv-loop μ-loop
+cast-put-row c = search needs
+
+mul-put-row : tie.Need-mul-put-row Inv-loop μ-loop
+mul-put-row c = product-fits {p = 32} {q = 32} (let s = c .before .before .before .before .before .before .before .before in omega (arith, s .pre .0 .few)) (let s = c .before .before .before .before .before .before .before .before in s .pre .0 .few) tt
+
+add-put-row-2 : tie.Need-add-put-row-2 Inv-loop μ-loop
+add-put-row-2 c =
     let l = c .before .before .before .loop in
-    let s = c .before .before .before .before .before .before .before in
+    let s = c .before .before .before .before .before .before .before .before in
+    let a = s .args in
+    let o = sender-of (a .h) (a .table .now) (a .round) (a .at) (s .pre .1) (l .i) (omega arith) in
+    let b = place-below (a .h .n) (a .round) (l .i) 0 (o .round-low) (omega arith) (omega arith) (rounds (a .h .t)) (o .round-high) in
+    let z : l .i + 1 - 1 ≡ l .i = omega arith in
+    omega (arith, rw z at (o .at-is), b, table-short _ _ _ _ _ _ (s .pre .0))
+
+put-row-requires : tie.Need-put-row-requires Inv-loop μ-loop
+put-row-requires c κs =
+    let l = c .before .before .before .loop in
+    let s = c .before .before .before .before .before .before .before .before in
+    let a = s .args in
     let z : l .i + 1 - 1 ≡ l .i = omega arith in (
       ready-on _ _ _ _ _ _ _ _ _ (s .pre .0) (l .inv .2) (l .inv .3),
-      record {
-        at-is = rw z (l .inv .1);
-        round-low = s .pre .1 .round-low;
-        round-high = s .pre .1 .round-high;
-        from-low = omega arith;
-        from-high = omega arith;
-      },
+      sender-of (a .h) (a .table .now) (a .round) (a .at) (s .pre .1) (l .i) (omega arith),
+      rw z (l .inv .1 (omega arith)),
     )
 
-add-row : tie.Need-add-row Inv-loop μ-loop
-add-row c =
-    let l = c .before .before .before .before .before .before .loop in
-    let s = c .before .before .before .before .before .before .before .before .before .before in
-    let a = s .args in
-    let r = s .pre .1 in
-    let b = place-below (a .h .n) (a .round) (l .i) 0 (r .round-low) (omega arith) (omega arith) (rounds (a .h .t)) (r .round-high) in
-    omega (arith, l .inv .1, b, table-short _ _ _ _ _ _ (s .pre .0), s .pre .0 .few)
+cast-i : tie.Need-cast-i Inv-loop μ-loop
+cast-i c = search needs
 
 add-i : tie.Need-add-i Inv-loop μ-loop
 add-i c = search needs
 
+element-copy-out-i-2 : tie.Need-element-copy-out-i-2 Inv-loop μ-loop
+element-copy-out-i-2 c = search needs
+
 loop-less : tie.Need-loop-less Inv-loop μ-loop
-loop-less c = search needs
+loop-less c =
+    let l = c .before .before .before .before .before .before .before .loop in
+    let s = c .before .before .before .before .before .before .before .before .before .before .before .before in
+    omega (arith, s .pre .2 .first (s .pre .0 .few) (l .i + 1) (omega arith) .low)
 
 loop-again : tie.Need-loop-again Inv-loop μ-loop
 loop-again c =
-    let l = c .before .before .before .before .before .before .loop in
-    let a = c .before .before .before .before .before .before .before .before .before .before .args in
-    let p = c .before .before .put-sender in
-    let e = place-steps (a .h .n) (a .round) (l .i) 0 .next-sender in (
-      omega arith,
-      omega (arith, e, l .inv .1),
+    let l = c .before .before .before .before .before .before .before .loop in
+    let s = c .before .before .before .before .before .before .before .before .before .before .before .before in
+    let a = s .args in
+    let p = c .before .before .before .put-row in
+    let f = s .pre .2 .first (s .pre .0 .few) (l .i + 1) (omega arith) in (
+      f .high,
+      f .there,
       p .kept .1 .1 .0 ∙ l .inv .2,
-      p .ensures .0,
+      leapt-on (a .h) (a .table .now) (a .round) (a .at) (s .pre .1) (l .i) _ _ f (p .ensures .0),
       λ z q. p .ensures .1 z (l .inv .4 z q),
     )
 
@@ -81,12 +101,9 @@ same-length c = c .before .before .loop .inv .2
 returns : tie.Need-returns Inv-loop μ-loop
 returns c =
     let l = c .before .before .loop in
-    let s = c .before .before .before .before .before .before in
-    let a = s .args in
+    let a = c .before .before .before .before .before .before .before .args in
     let e : l .i ≡ a .h .n = omega arith in
-    let f : l .row ≡ a .at + a .h .n * a .h .n =
-    l .inv .1 ∙ ap (λ (i : ℕ). place (a .h .n) (a .round) i 0) e ∙ omega (arith, round-end (a .h .n) (a .round), s .pre .1 .at-is) in
-    (rw f at (l .inv .3), l .inv .4)
+    (rw e at (l .inv .3), l .inv .4)
 
 pub put-round-spec : {M : Type 1} → statement M
 put-round-spec =
@@ -95,11 +112,16 @@ put-round-spec =
     Inv-loop
     μ-loop
     cast-n
+    element-copy-out-i
     loop-holds
-    add-put-sender
-    put-sender-requires
-    add-row
+    add-put-row
+    cast-put-row
+    mul-put-row
+    add-put-row-2
+    put-row-requires
+    cast-i
     add-i
+    element-copy-out-i-2
     loop-less
     loop-again
     same-length

@@ -1,12 +1,12 @@
--- `put::put_header` meets its contract: three times four bytes.
+-- `put_twelve` meets its contract: three times four bytes.
 use borrow.Author.Needs.{needs}
 use native.Mathlib.Omega.{arith}
 use mathlib.Core.Path.{sym, _∙_}
 use Rattle.layout.specs.Layout.{byte}
-use Rattle.writer.specs.Sheet.{header-bytes}
-use Rattle.writer.proofs.PutLaws.{laid-twelve}
-use Rattle.writer.proofs.put.put_header.Statement.{statement}
-use Rattle.writer.proofs.put.put_header.Tie as tie
+use Rattle.record.specs.Bytes.{header-bytes}
+use Rattle.record.proofs.PutLaws.{laid-twelve}
+use Rattle.record.proofs.put_twelve.Statement.{statement}
+use Rattle.record.proofs.put_twelve.Tie as tie
 
 shared-slice-read-put-four : tie.Need-shared-slice-read-put-four
 shared-slice-read-put-four c = search needs
@@ -62,8 +62,8 @@ returns c =
     let x = c .before .before .before .before .before .before .before .before .before .before .before .before .before .before .before .before .before .put-four .ensures in
     rw (← f .0, f .1) (rw (y, x) at z ∙ laid-twelve _ _ _ _ _ _ _ _ _ _ _ _ _)
 
-pub put-header-spec : {M : Type 1} → statement M
-put-header-spec =
+pub put-twelve-spec : {M : Type 1} → statement M
+put-twelve-spec =
     tie.close
     (tie.spec
     shared-slice-read-put-four

@@ -1,10 +1,10 @@
--- `put::put_four` meets its contract.
+-- `put_four` meets its contract.
 use borrow.Author.Needs.{needs}
 use native.Mathlib.Omega.{arith}
 use lib.ListN.{length-set}
-use Rattle.writer.proofs.PutLaws.{laid-four}
-use Rattle.writer.proofs.put.put_four.Statement.{statement}
-use Rattle.writer.proofs.put.put_four.Tie as tie
+use Rattle.record.proofs.PutLaws.{laid-four}
+use Rattle.record.proofs.put_four.Statement.{statement}
+use Rattle.record.proofs.put_four.Tie as tie
 
 slice-write-sheet : tie.Need-slice-write-sheet
 slice-write-sheet c = search needs

@@ -1,9 +1,9 @@
--- `put::first_index` meets its contract.
+-- `first_index` meets its contract.
 use mathlib.Core.Path.{refl}
 use borrow.Author.Tests.{eq-eqb, ne-eqb}
-use Rattle.writer.specs.Sheet.{low, high, first-index}
-use Rattle.writer.proofs.put.first_index.Statement.{statement}
-use Rattle.writer.proofs.put.first_index.Tie as tie
+use Rattle.record.specs.Bytes.{low, high, first-index}
+use Rattle.record.proofs.first_index.Statement.{statement}
+use Rattle.record.proofs.first_index.Tie as tie
 
 returns : tie.Need-returns
 unfolding low high first-index

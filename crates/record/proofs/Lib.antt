@@ -1,0 +1,2 @@
+-- PutLaws has what is put byte by byte.
+pub mod PutLaws
