@@ -1,15 +1,14 @@
 -- Laws of the bytes that are put one after the other. Assumes nothing.
-use Prim.Native.Nat.{ℕ, suc, _+_, _*_, _/_, _%_, _≤_, _<_}
-use mathlib.Core.Path.{_≡_, refl, sym}
+use Prim.Native.Nat.{ℕ, suc, _+_, _≤_, _<_}
+use mathlib.Core.Path.{_≡_, refl}
 use mathlib.Core.Logic.{_≢_}
 use mathlib.Core.List.{List, [], _∷_}
 use native.Mathlib.Omega.{arith}
-use lib.Arith.{digits-div}
 use lib.ListN.{length, set}
 use borrow.Author.Tests.{le-leb, lt-leb, eq-eqb, ne-eqb}
 use Rattle.text.specs.Laid.{laid}
-use Rattle.record.specs.Bytes.{low, high, header-bytes, eight}
-use Rattle.record.specs.Put.{put-in, header-in, word-bytes}
+use Rattle.record.specs.Bytes.{header-bytes}
+use Rattle.record.specs.Put.{put-in, header-in}
 
 -- ---- one after the other
 
@@ -28,47 +27,11 @@ pub laid-twelve : (l : List ℕ) (a b c d e f g h i j k m : ℕ)
 unfolding laid
 laid-twelve l a b c d e f g h i j k m = refl
 
+-- four, and four more after them
 pub laid-eight : (l : List ℕ) (at a b c d e f g h : ℕ)
-    → set (set (set (set (set (set (set (set l at a) (at + 1) b) (at + 2) c) (at + 3) d) (at + 4) e) (at + 5) f) (at + 6) g) (at + 7) h
-    ≡ laid l at (a ∷ b ∷ c ∷ d ∷ e ∷ f ∷ g ∷ h ∷ [])
+    → laid (laid l at (a ∷ b ∷ c ∷ d ∷ [])) (at + 4) (e ∷ f ∷ g ∷ h ∷ []) ≡ laid l at (a ∷ b ∷ c ∷ d ∷ e ∷ f ∷ g ∷ h ∷ [])
 unfolding laid
-laid-eight l at a b c d e f g h =
-    let p₁ : at + 1 ≡ suc at = omega arith in
-    let p₂ : at + 2 ≡ suc (suc at) = omega arith in
-    let p₃ : at + 3 ≡ suc (suc (suc at)) = omega arith in
-    let p₄ : at + 4 ≡ suc (suc (suc (suc at))) = omega arith in
-    let p₅ : at + 5 ≡ suc (suc (suc (suc (suc at)))) = omega arith in
-    let p₆ : at + 6 ≡ suc (suc (suc (suc (suc (suc at))))) = omega arith in
-    let p₇ : at + 7 ≡ suc (suc (suc (suc (suc (suc (suc at)))))) = omega arith in
-    rw (p₁, p₂, p₃, p₄, p₅, p₆, p₇)
-
--- ---- a record as one number
-
--- what stands above a part that is below 256 to some power
-above : (w base q rest : ℕ) → w ≡ q * base + rest → rest < base → w / base ≡ q
-above w base q rest e h = rw e (digits-div q h)
-
-pub word-eight : (r f t b x : ℕ) → r < 256 → f < 256 → t < 256 → b < 256 → x < 65536
-    → word-bytes (r + 256 * f + 65536 * t + 16777216 * b + 4294967296 * x) ≡ eight r f t b x
-unfolding word-bytes eight low high
-word-eight r f t b x hr hf ht hb hx =
-    let w = r + 256 * f + 65536 * t + 16777216 * b + 4294967296 * x in
-    let q₁ : w / 256 ≡ f + 256 * (t + 256 * b + 65536 * x) = above w 256 (f + 256 * (t + 256 * b + 65536 * x)) r (omega arith) hr in
-    let q₂ : w / 65536 ≡ t + 256 * (b + 256 * x) = above w 65536 (t + 256 * (b + 256 * x)) (r + 256 * f) (omega arith) (omega arith) in
-    let q₃ : w / 16777216 ≡ b + 256 * x = above w 16777216 (b + 256 * x) (r + 256 * f + 65536 * t) (omega arith) (omega arith) in
-    let q₄ : w / 4294967296 ≡ x = above w 4294967296 x (r + 256 * f + 65536 * t + 16777216 * b) (omega arith) (omega arith) in
-    let y = x / 256 in
-    let z = x % 256 in
-    let q₅ : w / 1099511627776 ≡ y =
-    above w 1099511627776 y (r + 256 * f + 65536 * t + 16777216 * b + 4294967296 * z) (omega arith) (omega arith) in
-    let q₆ : w / 281474976710656 ≡ 0 = above w 281474976710656 0 w (omega arith) (omega arith) in
-    let q₇ : w / 72057594037927936 ≡ 0 = above w 72057594037927936 0 w (omega arith) (omega arith) in
-    let e₀ : w % 256 ≡ r = omega arith in
-    let e₁ : (f + 256 * (t + 256 * b + 65536 * x)) % 256 ≡ f = omega arith in
-    let e₂ : (t + 256 * (b + 256 * x)) % 256 ≡ t = omega arith in
-    let e₃ : (b + 256 * x) % 256 ≡ b = omega arith in
-    let e₅ : y % 256 ≡ y = omega arith in
-    rw (q₁, q₂, q₃, q₄, q₅, q₆, q₇, e₀, e₁, e₂, e₃, e₅)
+laid-eight l at a b c d e f g h = let p : at + 4 ≡ suc (suc (suc (suc at))) = omega arith in rw p
 
 -- ---- room
 

@@ -1,4 +1,3 @@
--- The written sheet byte by byte (document 01, "The run sheet"; document 02, Ticket 1): its header, and a record. Put has what the calls leave in a buffer, and for
--- private functions the bytes of a number.
+-- The written sheet byte by byte (document 01, "The run sheet"; document 02, Ticket 1): Bytes has its header and a record, Put what the calls leave in a buffer.
 pub mod Bytes
 pub mod Put

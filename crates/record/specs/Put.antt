@@ -1,6 +1,6 @@
 -- What the calls leave in a buffer.
-use Prim.Native.Nat.{ℕ, _+_, _/_, _%_}
-use mathlib.Core.List.{List, [], _∷_}
+use Prim.Native.Nat.{ℕ, _+_}
+use mathlib.Core.List.{List}
 use lib.Dec.{leb, eqb}
 use lib.ListN.{length}
 use Rattle.line.specs.Count.{if_then_else_}
@@ -14,9 +14,3 @@ put-in sheet at bytes = if leb (at + length bytes) (length sheet) then laid shee
 -- a sheet with a header of twelve bytes at its start, where k records follow; as it was where that has no room, or has not twelve bytes
 unfoldable pub header-in : List ℕ → List ℕ → ℕ → List ℕ
 header-in sheet h k = if eqb (length h) 12 then put-in sheet 0 (header-bytes h k) else sheet
-
--- the eight bytes of a number of 64 bits, the lowest first
-unfoldable pub word-bytes : ℕ → List ℕ
-word-bytes w =
-    w % 256 ∷ w / 256 % 256 ∷ w / 65536 % 256 ∷ w / 16777216 % 256 ∷ w / 4294967296 % 256 ∷ w / 1099511627776 % 256 ∷ w / 281474976710656 % 256
-    ∷ w / 72057594037927936 % 256 ∷ []

@@ -5,7 +5,7 @@ ghost use Prim.Native.Nat.{_+_, _≤_};
 ghost use lib.ListN.{length};
 ghost use Rattle.text.specs.Laid.{laid};
 ghost use Rattle.record.specs.Bytes.{low, high, first-index, header-bytes, eight};
-ghost use Rattle.record.specs.Put.{put-in, header-in, word-bytes};
+ghost use Rattle.record.specs.Put.{put-in, header-in};
 
 // The low byte of the first index, where k records follow; the high byte is zero.
 fn first_index(k: usize) -> u8
@@ -48,33 +48,16 @@ pub fn put_header(header: &[u8], sheet: &mut [u8], k: usize)
     put_twelve(header, sheet, k);
 }
 
-// The eight bytes of a number, the lowest first, from `at` on: the compiler makes one store of them.
-fn put_word(sheet: &mut [u8], at: usize, w: u64)
-    requires { ⌜ at + 8 ≤ length (now sheet) ⌝ }
-    ensures { λ _. ⌜ now (sheet .exit) ≡ laid (now (sheet .entry)) at (word-bytes w) ⌝ }
-{
-    sheet[at] = (w % 256) as u8;
-    sheet[at + 1] = (w / 256 % 256) as u8;
-    sheet[at + 2] = (w / 65536 % 256) as u8;
-    sheet[at + 3] = (w / 16777216 % 256) as u8;
-    sheet[at + 4] = (w / 4294967296 % 256) as u8;
-    sheet[at + 5] = (w / 1099511627776 % 256) as u8;
-    sheet[at + 6] = (w / 281474976710656 % 256) as u8;
-    sheet[at + 7] = (w / 72057594037927936 % 256) as u8;
-}
-
-// A record's bytes as one number.
-fn word(round: u8, from: u8, to: u8, ballot: u8, next: u16) -> u64
-    ensures { λ r. ⌜ word-bytes r ≡ eight round from to ballot next ⌝ }
-{
-    (round as u64)
-        + 256 * (from as u64)
-        + 65536 * (to as u64)
-        + 16777216 * (ballot as u64)
-        + 4294967296 * (next as u64)
-}
-
 // A record's eight bytes, from `at` on.
+fn put_eight(sheet: &mut [u8], at: usize, round: u8, from: u8, to: u8, ballot: u8, next: u16)
+    requires { ⌜ at + 8 ≤ length (now sheet) ⌝ }
+    ensures { λ _. ⌜ now (sheet .exit) ≡ laid (now (sheet .entry)) at (eight round from to ballot next) ⌝ }
+{
+    put_four(sheet, at, round, from, to, ballot);
+    put_four(sheet, at + 4, (next % 256) as u8, (next / 256) as u8, 0, 0);
+}
+
+// A record, from `at` on.
 pub fn put(sheet: &mut [u8], at: usize, round: u8, from: u8, to: u8, ballot: u8, next: u16)
     ensures { λ _. ⌜ now (sheet .exit) ≡ put-in (now (sheet .entry)) at (eight round from to ballot next) ⌝ }
 {
@@ -84,5 +67,5 @@ pub fn put(sheet: &mut [u8], at: usize, round: u8, from: u8, to: u8, ballot: u8,
     if sheet.len() - 8 < at {
         return;
     }
-    put_word(sheet, at, word(round, from, to, ballot, next));
+    put_eight(sheet, at, round, from, to, ballot, next);
 }

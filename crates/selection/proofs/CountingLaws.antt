@@ -8,14 +8,16 @@ use native.Mathlib.Nat.{add-zero, add-suc, add-assoc, add-mul, suc-mul, zero-mul
 use native.Mathlib.Decide.{le-ind}
 use native.Mathlib.Numerals.{add-one}
 use native.Mathlib.Omega.{arith}
-use lib.Dec.{eqb}
+use lib.Dec.{leb, eqb}
 use lib.ListN.{length, getD}
+use lib.Pow.{pow-pos}
 use borrow.Author.Tests.{le-leb, lt-leb, eq-eqb, ne-eqb}
 use Rattle.line.specs.Count.{if_then_else_, count}
 use Rattle.line.specs.Marks.{marked}
 use Rattle.line.specs.Line.{table-length, place}
 use Rattle.line.specs.Ballot.{silence}
 use Rattle.line.proofs.CountLaws.{count-same, count-none}
+use Rattle.line.proofs.MarksLaws.{marked-above}
 use Rattle.line.proofs.LineLaws.{next-row, row-within, place-from-start, place-from}
 use Rattle.layout.specs.declared.Header.{Header}
 use Rattle.selection.specs.Places.{from-at, to-write, how-many}
@@ -110,6 +112,22 @@ round-within n r last h = rw (← next-round n r) (mul-le-mul-right n (mul-le-mu
 -- ---- what the call answers
 
 module _ (h : Header) (table : List ℕ) where
+  -- nobody marked
+  nobody : h .marks ≡ 0 → (p : ℕ) → to-write (h .n) (h .marks) table p ≡ false
+  unfolding to-write
+  nobody e p = rw (e, marked-above 0 (from-at (h .n) p) (pow-pos (from-at (h .n) p)))
+
+  pub counted-nobody : h .marks ≡ 0 → 0 ≡ counted h table
+  unfolding counted how-many
+  counted-nobody e =
+      let l = table-length (h .n) (h .t) in
+      rw (count-same l (to-write (h .n) (h .marks) table) (λ p. false) (λ p q. nobody e p), count-none l)
+      (go (leb (h .n) 32 && eqb (length table) l))
+    where
+      go : (b : Bool) → _≡_ {A = ℕ} 0 (if b then 0 else 0)
+      go true = refl
+      go false = refl
+
   pub counted-large : 32 < h .n → 0 ≡ counted h table
   unfolding counted
   counted-large l = rw (lt-leb (h .n) 32 l)

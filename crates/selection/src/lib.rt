@@ -89,10 +89,13 @@ fn in_table(table: &[u8], marks: u32, n: u8, last: usize) -> usize
     k
 }
 
-// How many bytes of a table are to be written; none where it is not of the header's length, or the line has more than 32 stations.
+// How many bytes of a table are to be written; none where nobody is marked, where it is not of the header's length, or the line has more than 32 stations.
 pub fn count(header: Header, table: &[u8]) -> usize
     ensures { λ r. ⌜ r ≡ counted header (now (table .entry)) ⌝ }
 {
+    if header.marks == 0 {
+        return 0;
+    }
     if 32 < header.n {
         return 0;
     }

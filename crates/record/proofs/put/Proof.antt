@@ -18,22 +18,15 @@ returns-2 : tie.Need-returns-2
 unfolding eight
 returns-2 c = put-not _ _ _ (omega arith)
 
-word-requires : tie.Need-word-requires
-word-requires c κs = search needs
-
-put-word-requires : tie.Need-put-word-requires
-put-word-requires c κs = search needs
+put-eight-requires : tie.Need-put-eight-requires
+put-eight-requires c κs = search needs
 
 same-length : tie.Need-same-length
 same-length c = search needs
 
 returns-3 : tie.Need-returns-3
 unfolding eight
-returns-3 c =
-    let p = c .before .before .put-word .ensures in
-    rw (c .before .before .before .word .ensures) at p ∙ sym (put-there _ _ _ (omega arith))
+returns-3 c = c .before .before .put-eight .ensures ∙ sym (put-there _ _ _ (omega arith))
 
 pub put-spec : {M : Type 1} → statement M
-put-spec =
-    tie.close
-    (tie.spec returns sub-if2 returns-2 word-requires put-word-requires same-length returns-3)
+put-spec = tie.close (tie.spec returns sub-if2 returns-2 put-eight-requires same-length returns-3)
