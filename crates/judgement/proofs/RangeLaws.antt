@@ -11,7 +11,7 @@ use Rattle.refusal.specs.Cause.{_or-else_}
 use Rattle.header.specs.Header.{outside}
 use Rattle.refusal.specs.declared.cause.Verdict.the-variants.{Accepted}
 use Rattle.refusal.proofs.VerdictLaws.{neither, accepted-false, both-accepted}
-use Rattle.header.proofs.HeaderLaws.{inside}
+use Rattle.header.proofs.HeaderLaws.{inside, inside-not}
 use Rattle.layout.specs.Layout.{header, round, from, to}
 use Rattle.layout.specs.Chain.{Record}
 use Rattle.layout.specs.Numbers.{record-at}
@@ -53,6 +53,17 @@ in-range n last round from to rest e =
       to-high = t .1;
       rest-zero = eqb-true rest 0 (not-false blank d);
     }
+
+-- and what is in its ranges is let through
+pub range-passes : (n last round from to rest : ℕ) → InRange n last round from to rest
+    → outside 1 last round || outside 1 n from || outside 1 n to || not (eqb rest 0) ≡ false
+range-passes n last round from to rest r =
+    rw (
+      inside-not 1 last round (r .round-low) (r .round-high),
+      inside-not 1 n from (r .from-low) (r .from-high),
+      inside-not 1 n to (r .to-low) (r .to-high),
+      eq-eqb rest 0 (r .rest-zero),
+    )
 
 -- ---- the numbers handed on
 

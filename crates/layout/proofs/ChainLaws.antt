@@ -197,6 +197,14 @@ module _ (s : List ℕ) where
   unfoldable pub fate : Fate s
   fate = walk (records s + 1) 0 (omega arith) (λ a l. absurd (omega arith))
 
+  -- a chain that ends is no longer than there are records
+  pub chain-short : (m : ℕ) → Ends s m → m ≤ records s
+  chain-short m e =
+      ⊎-elim
+      (λ (h : m ≤ records s). h)
+      (λ (h : records s < m). absurd (ends-or-again m e (reached-again (λ a l. e .chained a (omega arith)))))
+      (le-or-lt m (records s))
+
   -- ---- walking k steps
 
   -- where a record stands, records stand at all positions before

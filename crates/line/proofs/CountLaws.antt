@@ -2,7 +2,7 @@
 use Prim.Native.Nat.{ℕ, zero, suc, _+_, _≤_, _<_}
 use mathlib.Core.Path.{_≡_, refl, sym}
 use mathlib.Core.Bool.{Bool, true, false, not, true≢false}
-use mathlib.Core.Logic.{_⊎_, inl, inr, ⊎-elim}
+use mathlib.Core.Logic.{_≢_, _⊎_, inl, inr, ⊎-elim}
 use native.Mathlib.Omega.{arith}
 use native.Mathlib.Numerals.{add-one}
 use native.Mathlib.Nat.{le-refl, eq-or-lt-of-le, le-of-suc-le-suc}
@@ -112,6 +112,23 @@ count-not (suc n) p = go (p n) (count-not n p)
         → (if not b then 1 else 0) + count n (λ k. not (p k)) + ((if b then 1 else 0) + count n p) ≡ suc n
     go true ih = omega arith
     go false ih = omega arith
+
+-- tests that agree beside x, which fails p
+pub count-change : (n x : ℕ) (p q : ℕ → Bool) → x < n → p x ≡ false → ((k : ℕ) → k < n → k ≢ x → q k ≡ p k)
+    → count n q ≡ (if q x then 1 else 0) + count n p
+unfolding count
+count-change zero x p q l e same = absurd (omega arith)
+count-change (suc n) x p q l e same =
+    ⊎-elim
+    (λ (z : x ≡ n).
+    let below : count n q ≡ count n p = count-same n q p (λ k u. same k (omega arith) (λ r. omega arith)) in
+    let e′ : p n ≡ false = rw z at e in
+    rw (z, e′, below) (omega arith))
+    (λ (u : x < n).
+    let ih = count-change n x p q u e (λ k v r. same k (omega arith) r) in
+    let here : q n ≡ p n = same n (omega arith) (λ r. omega arith) in
+    rw here (omega arith))
+    (eq-or-lt-of-le (le-of-suc-le-suc l))
 
 -- ---- two numbers of stations
 
