@@ -89,11 +89,11 @@ module _ (h table : List ℕ) where
   taken-counted e = counted-all (header h) table (taken-sound h (length table) e .most) (taken-length h (length table) e)
 
   -- what is not refused before the buffer is looked at
-  before-both : before-buffer h table ≡ verdict.Accepted → (header-and-table h (length table) ≡ verdict.Accepted) × (too-many h table ≡ verdict.Accepted)
+  pub before-both : before-buffer h table ≡ verdict.Accepted → (header-and-table h (length table) ≡ verdict.Accepted) × (too-many h table ≡ verdict.Accepted)
   unfolding before-buffer
   before-both e = both-accepted _ _ e
 
-  before-few : before-buffer h table ≡ verdict.Accepted → how-many (header h) table ≤ 4096
+  pub before-few : before-buffer h table ≡ verdict.Accepted → how-many (header h) table ≤ 4096
   unfolding too-many
   before-few e = ltb-false most-records (how-many (header h) table) (accepted-false _ _ (before-both e .1))
 
