@@ -3,6 +3,7 @@
 use Prim.Native.Nat.{ℕ, _+_, _-_, _*_, _/_}
 use mathlib.Core.List.{List}
 use lib.ListN.{length, getD}
+use Rattle.line.specs.Line.{table-length}
 use Rattle.layout.specs.declared.Header.{Header}
 
 unfoldable pub byte : List ℕ → ℕ → ℕ
@@ -19,6 +20,10 @@ four s i = two s i + 65536 * two s (i + 2)
 unfoldable pub header : List ℕ → Header
 header s =
     record { n = byte s 0; t = byte s 1; upper = byte s 2; sender = byte s 3; value = byte s 4; marks = four s 8 }
+
+-- the table length of the sheet's line; where the sheet has no whole header, that of the bytes there are, and zeros
+abbrev pub table-wanted : List ℕ → ℕ
+table-wanted s = table-length (header s .n) (header s .t)
 
 -- "5 zero"
 unfoldable pub spare : List ℕ → ℕ

@@ -2,9 +2,10 @@
 ghost use mathlib.Core.Path.{_≡_};
 ghost use Prim.Native.Nat.{_+_, _*_, _<_, _≤_};
 ghost use lib.ListN.{length};
-ghost use Rattle.layout.specs.Layout.{byte, header, spare, first, records};
+ghost use Rattle.layout.specs.Layout.{byte, header, table-wanted, spare, first, records};
 ghost use Rattle.layout.specs.Chain.{is-record};
 ghost use Rattle.layout.specs.Numbers.{numbers-from, no-numbers, record-at};
+use line::Line;
 
 // The numbers of a sheet's header.
 pub struct Header {
@@ -54,6 +55,18 @@ pub fn header_of(sheet: &[u8]) -> Header
         value: byte(sheet, 4),
         marks: (low as u32) + 65536 * (high as u32),
     }
+}
+
+// The table length of the sheet's line.
+pub fn table_len(sheet: &[u8]) -> usize
+    ensures { λ r. ⌜ r ≡ table-wanted (now (sheet .entry)) ⌝ }
+{
+    let line = Line {
+        n: byte(sheet, 0),
+        t: byte(sheet, 1),
+        upper: 0,
+    };
+    line.table_len()
 }
 
 // Byte 5, which is to be zero.

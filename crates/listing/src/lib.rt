@@ -3,24 +3,12 @@ ghost use mathlib.Core.Path.{_≡_};
 ghost use Prim.Native.Nat.{_≤_, min};
 ghost use lib.ListN.{length};
 ghost use Rattle.line.specs.Line.{outcomes-length};
-ghost use Rattle.listing.specs.Promise.{wanted, Lists};
+ghost use Rattle.listing.specs.Promise.{Lists};
 ghost use Rattle.listing.specs.Loops.{Readable, Runs, ListsWhole};
 use layout::Header;
 use line::Line;
 use refusal::cause::Verdict;
 use sheet::Reading;
-
-// The table length of the sheet's line.
-fn wanted(sheet: &[u8]) -> usize
-    ensures { λ r. ⌜ r ≡ wanted (now (sheet .entry)) ⌝ }
-{
-    let line = Line {
-        n: text::at(sheet, 0),
-        t: text::at(sheet, 1),
-        upper: 0,
-    };
-    line.table_len()
-}
 
 // The length, or the buffer's where that is less.
 fn within(len: usize, most: usize) -> usize
@@ -88,7 +76,7 @@ fn list_whole(sheet: &[u8], table: &mut [u8], log: &mut [u8], text: &mut [u8]) -
 pub fn list(sheet: &[u8], table: &mut [u8], log: &mut [u8], text: &mut [u8]) -> usize
     ensures { λ r. ⌜ Lists (now (sheet .entry)) (now (table .entry)) (now (table .exit)) (now (log .entry)) (now (log .exit)) (now (text .entry)) (now (text .exit)) r ⌝ }
 {
-    let len = wanted(sheet);
+    let len = layout::table_len(sheet);
     let a = within(len, table.len());
     let b = within(a, log.len());
     list_whole(sheet, &mut table[..b], &mut log[..b], text)

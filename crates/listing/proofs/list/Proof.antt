@@ -7,8 +7,8 @@ use Rattle.listing.proofs.ListingLaws.{lists-parts}
 use Rattle.listing.proofs.list.Statement.{statement}
 use Rattle.listing.proofs.list.Tie as tie
 
-wanted-requires : tie.Need-wanted-requires
-wanted-requires c κs = search needs
+table-len-requires : tie.Need-table-len-requires
+table-len-requires c κs = search needs
 
 within-requires : tie.Need-within-requires
 within-requires c κs = search needs
@@ -47,14 +47,14 @@ returns : tie.Need-returns
 returns c =
     let a = c .before .before .before .before .before .before .before .before .before .before .before .within .ensures in
     let b = c .before .before .before .before .before .before .before .before .before .before .within2 .ensures in
-    let w = c .before .before .before .before .before .before .before .before .before .before .before .before .wanted .ensures in
+    let w = c .before .before .before .before .before .before .before .before .before .before .before .before .table-len .ensures in
     lists-parts _ _ _ _ _ _ _ _ _ _ (le-trans (b .1) (a .2)) (b .2) (rw (← w) (a .0)) (b .0) (c .before .before .before .before .before .before .list-whole .kept .1 .0) (c .before .before .before .before .before .before .list-whole .kept .1 .1 .0) (c .before .before .before .before .before .before .list-whole .ensures)
 
 pub list-spec : {M : Type 1} → statement M
 list-spec =
     tie.close
     (tie.spec
-    wanted-requires
+    table-len-requires
     within-requires
     within-requires-2
     slice-relend-prefix-list-whole
