@@ -1,2 +1,3 @@
--- LineLaws are of the lines.
+-- LineLaws are of the lines, VerdictLaws of the verdict that they tell.
 pub mod LineLaws
+pub mod VerdictLaws

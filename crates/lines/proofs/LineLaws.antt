@@ -1,20 +1,20 @@
--- Laws of the lines: a field with a number, a station's line, and a station more. Assumes nothing.
-use Prim.Native.Nat.{ℕ, zero, suc, _+_, _*_, _<_}
+-- Laws of the lines: a field with a number, a station's line, a refusal's, and a station more. Assumes nothing.
+use Prim.Native.Nat.{ℕ, zero, suc, _+_, _*_, _≤_, _<_}
 use mathlib.Core.Path.{_≡_, sym}
 use mathlib.Core.Bool.{true, false}
 use mathlib.Core.List.{List, [], _∷_, _++_, append-assoc, append-nil}
 use native.Mathlib.Nat.{add-zero}
 use native.Mathlib.Numerals.{add-one}
 use native.Mathlib.Omega.{arith}
-use lib.ListN.{getD}
+use lib.ListN.{length, getD, length-append}
 use Rattle.line.specs.Marks.{marked}
 use Rattle.broadcast.specs.Station.{at}
 use Rattle.layout.specs.declared.Header.{Header}
 use Rattle.text.specs.Decimal.{space, decimal, numeral}
 use Rattle.text.specs.Laid.{Puts}
-use Rattle.text.proofs.DecimalLaws.{decimal-numeral}
+use Rattle.text.proofs.DecimalLaws.{decimal-numeral, decimal-short}
 use Rattle.text.proofs.LaidLaws.{puts-then}
-use Rattle.lines.specs.Lines.{num, dash, station-line, station-lines}
+use Rattle.lines.specs.Lines.{refused, num, dash, station-line, station-lines}
 use Rattle.lines.specs.Text.{line-text, text}
 
 -- the numbers of a listing are below 1,000
@@ -33,6 +33,10 @@ module _ (h : Header) (bytes : List ℕ) (i : ℕ) where
       → station-line h bytes i ≡ num (i + 1) ∷ num (getD bytes (3 * i) 0) ∷ num (getD bytes (3 * i + 1) 0) ∷ num (getD bytes (3 * i + 2) 0) ∷ []
   unfolding station-line at
   good-shown e = rw e
+
+-- a refusal's line is short
+pub refusal-short : (k : ℕ) → length (text ((refused ∷ num k ∷ []) ∷ [])) ≤ 12
+refusal-short k = simp length-append (omega (arith, decimal-short k))
 
 -- a station more
 pub lines-more : (h : Header) (bytes : List ℕ) (i m : ℕ)

@@ -1,9 +1,9 @@
 -- Laws of the text's length: an accepted sheet has at most 32 stations, and so its numbers have at most two digits; an outcome byte has one; and the
 -- stations below 10 have a line of 8 bytes. Assumes nothing.
-use Prim.Native.Nat.{ℕ, zero, suc, _+_, _-_, _*_, _/_, _%_, _≤_, _<_}
+use Prim.Native.Nat.{ℕ, zero, suc, _+_, _-_, _*_, _≤_, _<_}
 use mathlib.Core.Path.{_≡_, refl}
 use mathlib.Core.Bool.{Bool, true, false}
-use mathlib.Core.List.{List, [], _∷_}
+use mathlib.Core.List.{List}
 use native.Mathlib.Omega.{arith}
 use lib.Dec.{ltb}
 use lib.ListN.{length, length-append}
@@ -27,25 +27,15 @@ use Rattle.judgement.specs.Judgement.{verdict-to-8, chain-verdict, sheet-verdic
 use Rattle.sheet.specs.Reading.{table-of}
 use Rattle.sheet.specs.Loops.{SoundHeader}
 use Rattle.sheet.proofs.PromiseLaws.{opening-sound}
-use Rattle.text.specs.Decimal.{digit, decimal}
+use Rattle.text.specs.Decimal.{decimal}
 use Rattle.text.proofs.DecimalLaws.{decimal-one, decimal-two}
-use Rattle.lines.proofs.LineLaws.{bad-shown, good-shown}
+use Rattle.lines.proofs.LineLaws.{bad-shown, good-shown, refusal-short}
 use Rattle.lines.specs.Lines.{first-line, station-line, station-lines, lines-by, run}
 use Rattle.lines.specs.Text.{line-text, text}
 use Rattle.listing.specs.Promise.{listing}
 use Rattle.listing.specs.Theorems.{longest-listing}
 
 -- ---- numbers
-
-decimal-short : (x : ℕ) → length (decimal x) ≤ 3
-unfolding decimal
-decimal-short x = go (ltb x 10) (ltb x 100)
-  where
-    go : (a b : Bool)
-        → length (if a then digit x ∷ [] else (if b then digit (x / 10) ∷ digit (x % 10) ∷ [] else digit (x / 100) ∷ digit (x / 10 % 10) ∷ digit (x % 10) ∷ [])) ≤ 3
-    go true b = omega arith
-    go false true = omega arith
-    go false false = omega arith
 
 one-digit : (x : ℕ) → x < 10 → length (decimal x) ≡ 1
 one-digit x h = rw (← decimal-one x h)
@@ -130,4 +120,4 @@ module _ (s : List ℕ) (lent : ℕ) (fate : Fate s) where
           let rest = text (station-lines h bytes 0 (h .n)) in
           let shown = outcome-bytes (run h (table-of s fate)) in
           omega (arith, length-append first rest, first-short h sound, stations-short h bytes (sound .most) shown (h .n) 0 (omega arith), sound .most)
-      go (Refused c) e = simp length-append (omega (arith, decimal-short (number c)))
+      go (Refused c) e = omega (arith, refusal-short (number c))

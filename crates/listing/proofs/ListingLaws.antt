@@ -1,6 +1,6 @@
 -- Laws of the listing: its promise from what the reader and the rehearsal promise, and from buffers lent in part. Assumes nothing.
 use Prim.Native.Nat.{ℕ, _≤_, min}
-use mathlib.Core.Path.{_≡_, refl, sym, _∙_}
+use mathlib.Core.Path.{_≡_, refl, _∙_}
 use mathlib.Core.List.{List, [], _∷_, _++_}
 use native.Mathlib.Nat.{zero-add}
 use native.Mathlib.Omega.{arith}
@@ -21,12 +21,13 @@ use Rattle.sheet.specs.declared.Reading.{Reading}
 use Rattle.sheet.specs.declared.Reading.the-variants as reading
 use Rattle.layout.specs.Layout.{header}
 use Rattle.judgement.specs.Judgement.{verdict-to-8, chain-verdict, sheet-verdict}
-use Rattle.sheet.specs.Reading.{table-of, reading-by, Reads}
+use Rattle.sheet.specs.Reading.{table-of, Reads}
 use Rattle.sheet.proofs.PromiseLaws.{opening-sound, opening-length}
 use Rattle.text.specs.Laid.{laid, Puts}
 use Rattle.text.proofs.LaidLaws.{laid-front, after-within}
 use Rattle.lines.specs.Lines.{refused, num, lines-by, run}
 use Rattle.lines.specs.Text.{text}
+use Rattle.lines.proofs.VerdictLaws.{read-accepted, read-refused}
 use Rattle.listing.specs.Promise.{wanted, front, listing, Lists}
 use Rattle.listing.specs.Loops.{Readable, Runs, ListsWhole}
 use Rattle.listing.proofs.LengthLaws.{listing-short}
@@ -59,19 +60,10 @@ module _ (h : Header) (table log₀ log₁ : List ℕ) {outcomes₀ outcomes₁ 
 
 -- ---- a sheet, listed
 
--- what the reader's answer says of its verdict
-read-accepted : (v : Verdict) (h k : Header) → reading.Accepted h ≡ reading-by v k → (v ≡ verdict.Accepted) × (h ≡ k)
-read-accepted verdict.Accepted h k e = (refl, cc)
-read-accepted (verdict.Refused c) h k e = let z : _≡_ {A = ℕ} 0 1 = cc in absurd (omega arith)
-
-read-refused : (v : Verdict) (c : Cause) (k : Header) → reading.Refused c ≡ reading-by v k → v ≡ verdict.Refused c
-read-refused verdict.Accepted c k e = let z : _≡_ {A = ℕ} 0 1 = cc in absurd (omega arith)
-read-refused (verdict.Refused d) c k e = cc
-
 module _ (s table₀ table₁ : List ℕ) {answer : Reading} (r : Reads s table₀ table₁ answer) where
   module _ (h : Header) (e : answer ≡ reading.Accepted h) where
     both : (sheet-verdict s (length table₀) (r .fate) ≡ verdict.Accepted) × (h ≡ header s)
-    both = read-accepted (sheet-verdict s (length table₀) (r .fate)) h (header s) (sym e ∙ r .answer-is)
+    both = read-accepted s table₀ table₁ r h e
 
     opened : verdict-to-8 s (length table₀) ≡ verdict.Accepted
     unfolding sheet-verdict
@@ -100,7 +92,7 @@ module _ (s table₀ table₁ : List ℕ) {answer : Reading} (r : Reads s table�
       → Puts text₀ text₁ 0 (text ((refused ∷ num k ∷ []) ∷ [])) n → ListsWhole s table₀ table₁ log₀ log₀ text₀ text₁ n
   unfolding listing
   whole-refused c k e q log₀ text₀ text₁ n p =
-      let v = read-refused (sheet-verdict s (length table₀) (r .fate)) c (header s) (sym e ∙ r .answer-is) in
+      let v = read-refused s table₀ table₁ r c e in
       record { fate = r .fate; puts = rw (v, ← q) p; table-is = r .table-is; log-is = rw v }
 
 -- ---- buffers lent in part

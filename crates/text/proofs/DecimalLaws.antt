@@ -26,6 +26,17 @@ pub decimal-three : (x : ℕ) → 100 ≤ x → digit (x / 100) ∷ digit (x / 1
 unfolding decimal
 decimal-three x h = rw (le-ltb x 10 (omega arith), le-ltb x 100 h)
 
+-- at most three digits are written
+pub decimal-short : (x : ℕ) → length (decimal x) ≤ 3
+unfolding decimal
+decimal-short x = go (ltb x 10) (ltb x 100)
+  where
+    go : (a b : Bool)
+        → length (if a then digit x ∷ [] else (if b then digit (x / 10) ∷ digit (x % 10) ∷ [] else digit (x / 100) ∷ digit (x / 10 % 10) ∷ digit (x % 10) ∷ [])) ≤ 3
+    go true b = omega arith
+    go false true = omega arith
+    go false false = omega arith
+
 -- ---- a number of any size
 
 -- turns enough are all alike

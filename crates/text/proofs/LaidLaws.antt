@@ -9,7 +9,7 @@ use native.Mathlib.Numerals.{add-one}
 use native.Mathlib.Omega.{arith}
 use lib.Dec.{ltb}
 use lib.ListN.{length, getD, take, drop, set, length-set, length-append}
-use lib.Seq.{take-suc, take-length, getD-set-same, getD-set-other, set-out, sets, sets-eq}
+use lib.Seq.{take-suc, take-length, take-append-seam, getD-set-same, getD-set-other, set-out, sets, sets-eq}
 use borrow.Author.Tests.{ltb-true, ltb-false}
 use Rattle.text.specs.Laid.{laid, last-place, after, Puts}
 use Rattle.text.specs.Theorems.{Lies}
@@ -67,6 +67,10 @@ laid-sets (b ∷ bytes) l at = laid-sets bytes (set l at b) (suc at)
 pub laid-front : (bytes l : List ℕ) (k : ℕ) → length bytes ≡ k → k ≤ length l → bytes ++ drop k l ≡ laid l 0 bytes
 laid-front bytes l k e h =
     let z : 0 + length bytes ≡ k = omega arith in rw (laid-sets, sets-eq bytes l 0 (omega arith), z)
+
+-- and stand there
+pub laid-whole : (bytes l : List ℕ) → length bytes ≤ length l → take (length bytes) (laid l 0 bytes) ≡ bytes
+laid-whole bytes l h = rw (← laid-front bytes l (length bytes) refl h) (take-append-seam bytes _)
 
 -- past the buffer's end nothing is stored
 laid-out : (bytes l : List ℕ) (at : ℕ) → length l ≤ at → laid l at bytes ≡ l
