@@ -8,7 +8,8 @@ use Rattle.layout.specs.Layout.{header}
 use Rattle.layout.specs.Chain.{Record, after, reached, Ends}
 use Rattle.layout.proofs.ChainLaws.{after-record}
 use Rattle.selection.specs.Places.{how-many}
-use Rattle.writer.specs.Sheet.{first-index, next-index, sheet}
+use Rattle.record.specs.Bytes.{first-index}
+use Rattle.writer.specs.Sheet.{next-index, sheet}
 use Rattle.normal.proofs.SheetLaws.{records-are, first-is, next-is}
 
 first-some : (k : ℕ) → 0 < k → first-index k ≡ 1

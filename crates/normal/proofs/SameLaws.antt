@@ -5,7 +5,8 @@ use mathlib.Core.List.{List}
 use native.Mathlib.Omega.{arith}
 use Rattle.layout.specs.Layout.{byte, two, four, header}
 use Rattle.judgement.specs.Judgement.{line-and-length}
-use Rattle.writer.specs.Sheet.{header-bytes, sheet}
+use Rattle.record.specs.Bytes.{header-bytes}
+use Rattle.writer.specs.Sheet.{sheet}
 use Rattle.normal.proofs.SheetLaws.{header-is, marks-are}
 
 -- the ten bytes beside the first index

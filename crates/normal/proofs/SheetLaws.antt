@@ -11,7 +11,8 @@ use Rattle.layout.specs.declared.Header.{Header}
 use Rattle.layout.specs.Layout.{byte, two, header, spare, first, records, start, round, from, to, ballot, next, rest}
 use Rattle.judgement.proofs.FormLaws as form
 use Rattle.selection.specs.Places.{round-at, from-at, to-at, how-many, place-written}
-use Rattle.writer.specs.Sheet.{low, high, first-index, header-bytes, next-index, record-of, record-bytes, records-bytes, sheet}
+use Rattle.record.specs.Bytes.{low, high, first-index, header-bytes, eight}
+use Rattle.writer.specs.Sheet.{next-index, record-of, record-bytes, records-bytes, sheet}
 use Rattle.writer.proofs.RecordLaws.{records-length}
 use Rattle.writer.proofs.PromiseLaws.{header-twelve}
 
@@ -100,29 +101,29 @@ module _ (h table : List ℕ) where
         ∙ records-at (header h) table k k (m - 1) c (omega arith) l ∙ ap (λ (i : ℕ). getD (record-bytes (header h) table k i) c 0) e
 
     pub round-is : round (sheet h table) m ≡ round-at (header h .n) (place-written (header h) table m)
-    unfolding round record-bytes record-of
+    unfolding round record-bytes record-of eight
     round-is = rw add-zero at (record-at 0 (omega arith))
 
     pub from-is : from (sheet h table) m ≡ from-at (header h .n) (place-written (header h) table m) + 1
-    unfolding from record-bytes record-of
+    unfolding from record-bytes record-of eight
     from-is = record-at 1 (omega arith)
 
     pub to-is : to (sheet h table) m ≡ to-at (header h .n) (place-written (header h) table m) + 1
-    unfolding to record-bytes record-of
+    unfolding to record-bytes record-of eight
     to-is = record-at 2 (omega arith)
 
     pub ballot-is : ballot (sheet h table) m ≡ getD table (place-written (header h) table m) 0
-    unfolding ballot record-bytes record-of
+    unfolding ballot record-bytes record-of eight
     ballot-is = record-at 3 (omega arith)
 
     pub next-is : next (sheet h table) m ≡ next-index (how-many (header h) table) m
-    unfolding next two record-bytes record-of
+    unfolding next two record-bytes record-of eight
     next-is =
         let e : start m + 4 + 1 ≡ start m + 5 = omega arith in
         rw (e, record-at 4 (omega arith), record-at 5 (omega arith)) (two-bytes _)
 
     pub rest-is : rest (sheet h table) m ≡ 0
-    unfolding rest two record-bytes record-of
+    unfolding rest two record-bytes record-of eight
     rest-is =
         let e : start m + 6 + 1 ≡ start m + 7 = omega arith in
         rw (e, record-at 6 (omega arith), record-at 7 (omega arith))
