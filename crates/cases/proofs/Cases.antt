@@ -17,6 +17,11 @@ use Rattle.sheet.specs.Reading.{place-of, filled}
 use Rattle.layout.proofs.ChainLaws.{kind, walk, fate}
 use Rattle.lines.specs.Lines.{station-line, station-lines, verdict, lines}
 use Rattle.text.specs.Decimal.{decimal}
+use Rattle.selection.specs.Places.{round-at, from-at, to-at, to-write, how-many, ranked, place-written}
+use Rattle.record.specs.Bytes.{low, high, first-index, header-bytes, eight}
+use Rattle.writer.specs.Sheet.{next-index, record-of, record-bytes, records-bytes, sheet}
+use Rattle.normal.specs.Normal.{rewritten}
+use Rattle.normal.specs.Output.{output}
 use Rattle.cases.specs.Table.{All}
 use Rattle.cases.specs.Cases.{cases}
 use Rattle.cases.specs.Further.{further}
@@ -26,7 +31,7 @@ _then_ : {A B : Type 0} → A → B → A × B
 a then b = (a, b)
 
 both-hold : All cases × All further
-unfolding count place marked bit-or read-sender read-first read-second read-king refused-if outside station-count exceeded thresholds station-number bit mark-beyond marks-within exact-length line-verdict header-verdict tally firsts seconds z-from z-of y-from y-of grade-of flag-of sends first-row z second-row y grade phases first-round obey x-after y-after grade-after value-of final-grade final-flag at tabulate setting outcome-byte outcome-bytes outcomes byte two four header spare first records start round from to ballot next rest is-record after reached ill-formed sheet-form line-and-length verdict-to-8 misplaced record-form unmarked-sender same-place taken-before duplicate record-verdict records-verdict sheet-verdict place-of filled kind walk fate station-line station-lines verdict lines decimal
+unfolding count place marked bit-or read-sender read-first read-second read-king refused-if outside station-count exceeded thresholds station-number bit mark-beyond marks-within exact-length line-verdict header-verdict tally firsts seconds z-from z-of y-from y-of grade-of flag-of sends first-row z second-row y grade phases first-round obey x-after y-after grade-after value-of final-grade final-flag at tabulate setting outcome-byte outcome-bytes outcomes byte two four header spare first records start round from to ballot next rest is-record after reached ill-formed sheet-form line-and-length verdict-to-8 misplaced record-form unmarked-sender same-place taken-before duplicate record-verdict records-verdict sheet-verdict place-of filled kind walk fate station-line station-lines verdict lines decimal round-at from-at to-at to-write how-many ranked place-written low high first-index header-bytes eight next-index record-of record-bytes records-bytes sheet rewritten output
 both-hold = (
   (fate _, refl)
       then (fate _, refl)
@@ -47,6 +52,10 @@ both-hold = (
       then (fate _, refl)
       then tt,
   (fate _, refl)
+      then (fate _, refl)
+      then (fate _, refl)
+      then (fate _, refl)
+      then (fate _, refl)
       then (fate _, refl)
       then (fate _, refl)
       then (fate _, refl)

@@ -2,7 +2,8 @@
 use Prim.Native.Nat.{ℕ}
 use mathlib.Core.List.{List, [], _∷_, _++_}
 use Rattle.listing.specs.Theorems.{longest-listing}
-use Rattle.cases.specs.Table.{Wanted, prints, writes, is-long, accepted, refused-by, Case, head, rec, good, bad, opening}
+use Rattle.cases.specs.Table.{Wanted, prints, writes, is-long, rewritten-as, accepted, refused-by, Case, head, rec, good, bad, opening}
+use Rattle.cases.specs.Cases.{case-B}
 
 -- ---- runs
 
@@ -93,6 +94,26 @@ headed sender value marks o = record { sheet = head 4 1 1 sender value 0 marks; 
 abbrev pub chained : ℕ → List ℕ → Wanted → Case
 chained first records o = record { sheet = head 4 1 1 1 1 first 8 ++ records; comes-out = o }
 
+-- ---- rewritten: "rewriting a read sheet drops unchained records and records of silence" (document 02, Ticket 1)
+
+-- record 1 is not chained, and the chain goes from record 4 over 3, which is of silence, to 2 and 5: a garbled byte is written, in the order of the table
+abbrev pub untidy : Case
+untidy = record {
+  sheet =
+      head 2 0 0 1 1 4 2
+      ++ (9 ∷ 9 ∷ 9 ∷ 9 ∷ 9 ∷ 9 ∷ 9 ∷ 9 ∷ [])
+      ++ rec 3 2 2 7 5 ++ rec 2 2 1 255 2 ++ rec 6 2 1 1 3 ++ rec 1 2 2 0 0;
+  comes-out = rewritten-as (head 2 0 0 1 1 1 2 ++ rec 1 2 2 0 2 ++ rec 3 2 2 7 3 ++ rec 6 2 1 1 0);
+}
+
+-- "the sheet has 1 there, or 0 without records": the one record is not chained
+abbrev pub unchained : Case
+unchained = record { sheet = head 1 0 0 1 0 0 1 ++ rec 1 1 1 1 0; comes-out = rewritten-as (head 1 0 0 1 0 0 1) }
+
+-- document 01's case B is in its normal form
+abbrev pub case-B-again : Case
+case-B-again = record { sheet = case-B .sheet; comes-out = rewritten-as (case-B .sheet) }
+
 abbrev pub further : List Case
 further =
     silent-sender
@@ -139,4 +160,9 @@ further =
     ∷ chained 1 (rec 1 4 1 255 2 ++ rec 1 4 1 255 0) (refused-by 13)
     -- "Then the records are taken in chain order": record 2, whose from is not marked, comes before record 1, whose round is 0
     ∷ chained 2 (rec 0 4 1 1 0 ++ rec 1 1 4 1 1) (refused-by 12)
+    -- rewritten; a refused sheet gives the same line
+    ∷ untidy
+    ∷ unchained
+    ∷ case-B-again
+    ∷ chained 1 (rec 1 1 4 1 0) (rewritten-as refused-12)
     ∷ []

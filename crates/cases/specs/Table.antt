@@ -7,13 +7,15 @@ use Rattle.refusal.specs.Cause.{code}
 use Rattle.layout.specs.Chain.{Fate}
 use Rattle.lines.specs.Lines.{Field, agree, num, dash, verdict, lines}
 use Rattle.lines.specs.Text.{text}
+use Rattle.normal.specs.Output.{output}
 
--- what is wanted of a sheet: its listing's lines, or its text byte by byte, or the text's length, or that it is accepted, or the number that it is
--- refused by
+-- what is wanted of a sheet: its listing's lines, or its text byte by byte, or the text's length, or what the program rewrite writes, or that it is accepted, or
+-- the number that it is refused by
 pub data Wanted : Type 0 where
   prints : List (List Field) → Wanted
   writes : List ℕ → Wanted
   is-long : ℕ → Wanted
+  rewritten-as : List ℕ → Wanted
   accepted : Wanted
   refused-by : ℕ → Wanted
 
@@ -26,6 +28,7 @@ abbrev pub Comes : (s : List ℕ) → Wanted → Type 0
 Comes s (prints l) = (fate : Fate s) × (lines s fate ≡ l)
 Comes s (writes b) = (fate : Fate s) × (text (lines s fate) ≡ b)
 Comes s (is-long k) = (fate : Fate s) × (length (text (lines s fate)) ≡ k)
+Comes s (rewritten-as b) = (fate : Fate s) × (output s fate ≡ b)
 Comes s accepted = (fate : Fate s) × (code (verdict s fate) ≡ 0)
 Comes s (refused-by k) = (fate : Fate s) × (code (verdict s fate) ≡ k)
 

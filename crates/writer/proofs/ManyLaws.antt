@@ -1,0 +1,73 @@
+-- Laws of cause 14: which verdicts it can be told from, and when writing is refused by it. Assumes nothing.
+use Prim.Native.Nat.{ℕ, _≤_, _<_}
+use mathlib.Core.Path.{_≡_, refl, ap, sym, _∙_}
+use mathlib.Core.Bool.{Bool, true, false}
+use mathlib.Core.Logic.{_↔_}
+use mathlib.Core.List.{List}
+use native.Mathlib.Omega.{arith}
+use lib.Dec.{ltb}
+use lib.ListN.{length}
+use borrow.Author.Tests.{ltb-true, lt-ltb}
+use Rattle.refusal.specs.Cause.{number, code, refused-if, _or-else_}
+use Rattle.refusal.specs.declared.cause.Cause.{Cause}
+use Rattle.refusal.specs.declared.cause.Cause.the-variants.{SheetForm, StationCount, Thresholds, StationNumber, Value, MarkBeyond, Length, TooManyRecords}
+use Rattle.refusal.specs.declared.cause.Verdict.{Verdict}
+use Rattle.refusal.specs.declared.cause.Verdict.the-variants.{Accepted, Refused}
+use Rattle.refusal.proofs.VerdictLaws.{refused-true}
+use Rattle.header.specs.Header.{station-count, thresholds, station-number, bit, marks-within, line-verdict, header-verdict, exact-length}
+use Rattle.layout.specs.Layout.{header, most-records}
+use Rattle.judgement.specs.Judgement.{sheet-form, line-and-length, verdict-to-8}
+use Rattle.selection.specs.Places.{how-many}
+use Rattle.writer.specs.Sheet.{sheet-length}
+use Rattle.writer.specs.Judgement.{header-length, header-and-table, too-many, before-buffer, write-verdict}
+
+-- ---- verdicts whose numbers are at most 8
+
+if-most : (b : Bool) (c : Cause) → number c ≤ 8 → code (refused-if b c) ≤ 8
+unfolding refused-if
+if-most true c h = h
+if-most false c h = omega arith
+
+or-most : (v w : Verdict) → code v ≤ 8 → code w ≤ 8 → code (v or-else w) ≤ 8
+or-most Accepted w a b = b
+or-most (Refused c) w a b = a
+
+header-most : (n t T sender value marks : ℕ) → code (header-verdict n t T sender value marks) ≤ 8
+unfolding header-verdict line-verdict station-count thresholds station-number bit marks-within
+header-most n t T sender value marks =
+    or-most _ _ (or-most _ _ (if-most _ StationCount (omega arith)) (if-most _ Thresholds (omega arith)))
+    (or-most _ _ (if-most _ StationNumber (omega arith)) (or-most _ _ (if-most _ Value (omega arith)) (if-most _ MarkBeyond (omega arith))))
+
+length-most : (wanted found : ℕ) → code (exact-length wanted found) ≤ 8
+unfolding exact-length
+length-most wanted found = if-most _ Length (omega arith)
+
+taken-most : (h : List ℕ) (l : ℕ) → code (header-and-table h l) ≤ 8
+unfolding header-and-table header-length verdict-to-8 sheet-form line-and-length
+taken-most h l =
+    or-most _ _ (if-most _ SheetForm (omega arith))
+    (or-most _ _ (if-most _ SheetForm (omega arith)) (or-most _ _ (header-most _ _ _ _ _ _) (length-most _ _)))
+
+-- ---- cause 14
+
+module _ (h table : List ℕ) (size : ℕ) where
+  -- refused by 14: nothing before it, and more than 4,096
+  told : write-verdict h table size ≡ Refused TooManyRecords → (header-and-table h (length table) ≡ Accepted) × (most-records < how-many (header h) table)
+  unfolding write-verdict before-buffer too-many refused-if
+  told e = go (header-and-table h (length table)) refl (ltb most-records (how-many (header h) table)) refl e
+    where
+      go : (v : Verdict) → header-and-table h (length table) ≡ v → (b : Bool) → ltb most-records (how-many (header h) table) ≡ b
+          → (v or-else refused-if b TooManyRecords) or-else exact-length (sheet-length h table) size ≡ Refused TooManyRecords
+          → (header-and-table h (length table) ≡ Accepted) × (most-records < how-many (header h) table)
+      go Accepted p true q r = (p, ltb-true most-records (how-many (header h) table) q)
+      go Accepted p false q r = absurd (omega (arith, ap code r, length-most (sheet-length h table) size))
+      go (Refused c) p b q r = absurd (omega (arith, ap code r, ap code p, taken-most h (length table)))
+
+  -- and the other way
+  tells : (header-and-table h (length table) ≡ Accepted) × (most-records < how-many (header h) table) → write-verdict h table size ≡ Refused TooManyRecords
+  unfolding write-verdict before-buffer too-many
+  tells (e, l) = rw (e, refused-true TooManyRecords (lt-ltb most-records (how-many (header h) table) l))
+
+  pub refused-by-14 : (write-verdict h table size ≡ Refused TooManyRecords)
+      ↔ ((header-and-table h (length table) ≡ Accepted) × (most-records < how-many (header h) table))
+  refused-by-14 = (told, tells)
