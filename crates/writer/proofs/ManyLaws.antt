@@ -1,22 +1,24 @@
 -- Laws of cause 14: which verdicts it can be told from, and when writing is refused by it. Assumes nothing.
 use Prim.Native.Nat.{ℕ, _≤_, _<_}
 use mathlib.Core.Path.{_≡_, refl, ap, sym, _∙_}
-use mathlib.Core.Bool.{Bool, true, false}
+use mathlib.Core.Bool.{Bool, true, false, not}
 use mathlib.Core.Logic.{_↔_}
 use mathlib.Core.List.{List}
 use native.Mathlib.Omega.{arith}
-use lib.Dec.{ltb}
+use lib.Dec.{ltb, eqb}
 use lib.ListN.{length}
 use borrow.Author.Tests.{ltb-true, lt-ltb}
+use Rattle.line.specs.Line.{most-stations, table-length}
+use Rattle.line.specs.Marks.{mark-beyond}
 use Rattle.refusal.specs.Cause.{number, code, refused-if, _or-else_}
 use Rattle.refusal.specs.declared.cause.Cause.{Cause}
 use Rattle.refusal.specs.declared.cause.Cause.the-variants.{SheetForm, StationCount, Thresholds, StationNumber, Value, MarkBeyond, Length, TooManyRecords}
 use Rattle.refusal.specs.declared.cause.Verdict.{Verdict}
 use Rattle.refusal.specs.declared.cause.Verdict.the-variants.{Accepted, Refused}
 use Rattle.refusal.proofs.VerdictLaws.{refused-true}
-use Rattle.header.specs.Header.{station-count, thresholds, station-number, bit, marks-within, line-verdict, header-verdict, exact-length}
+use Rattle.header.specs.Header.{outside, exceeded, station-count, thresholds, station-number, bit, marks-within, line-verdict, header-verdict, exact-length}
 use Rattle.layout.specs.Layout.{header, most-records}
-use Rattle.judgement.specs.Judgement.{sheet-form, line-and-length, verdict-to-8}
+use Rattle.judgement.specs.Judgement.{ill-formed, sheet-form, line-and-length, verdict-to-8}
 use Rattle.selection.specs.Places.{how-many}
 use Rattle.writer.specs.Sheet.{sheet-length}
 use Rattle.writer.specs.Judgement.{header-length, header-and-table, too-many, before-buffer, write-verdict}
@@ -32,21 +34,41 @@ or-most : (v w : Verdict) → code v ≤ 8 → code w ≤ 8 → code (v or-else 
 or-most Accepted w a b = b
 or-most (Refused c) w a b = a
 
+line-most : (n t T : ℕ) → code (line-verdict n t T) ≤ 8
+unfolding line-verdict station-count thresholds
+line-most n t T =
+    or-most (station-count n) (thresholds n t T) (if-most (outside 1 most-stations n) StationCount (omega arith)) (if-most (exceeded n t T) Thresholds (omega arith))
+
+rest-most : (n sender value marks : ℕ) → code (station-number n sender or-else bit value or-else marks-within n marks) ≤ 8
+unfolding station-number bit marks-within
+rest-most n sender value marks =
+    or-most (station-number n sender) (bit value or-else marks-within n marks)
+    (if-most (outside 1 n sender) StationNumber (omega arith))
+    (or-most (bit value) (marks-within n marks) (if-most (ltb 1 value) Value (omega arith)) (if-most (mark-beyond n marks) MarkBeyond (omega arith)))
+
 header-most : (n t T sender value marks : ℕ) → code (header-verdict n t T sender value marks) ≤ 8
-unfolding header-verdict line-verdict station-count thresholds station-number bit marks-within
-header-most n t T sender value marks =
-    or-most _ _ (or-most _ _ (if-most _ StationCount (omega arith)) (if-most _ Thresholds (omega arith)))
-    (or-most _ _ (if-most _ StationNumber (omega arith)) (or-most _ _ (if-most _ Value (omega arith)) (if-most _ MarkBeyond (omega arith))))
+unfolding header-verdict
+header-most n t T sender value marks = or-most (line-verdict n t T) _ (line-most n t T) (rest-most n sender value marks)
 
 length-most : (wanted found : ℕ) → code (exact-length wanted found) ≤ 8
 unfolding exact-length
 length-most wanted found = if-most _ Length (omega arith)
 
+line-and-length-most : (h : List ℕ) (l : ℕ) → code (line-and-length h l) ≤ 8
+unfolding line-and-length
+line-and-length-most h l =
+    let g = header h in
+    or-most (header-verdict (g .n) (g .t) (g .upper) (g .sender) (g .value) (g .marks)) (exact-length (table-length (g .n) (g .t)) l)
+    (header-most (g .n) (g .t) (g .upper) (g .sender) (g .value) (g .marks)) (length-most (table-length (g .n) (g .t)) l)
+
+to-8-most : (h : List ℕ) (l : ℕ) → code (verdict-to-8 h l) ≤ 8
+unfolding verdict-to-8 sheet-form
+to-8-most h l = or-most (sheet-form h) (line-and-length h l) (if-most (ill-formed h) SheetForm (omega arith)) (line-and-length-most h l)
+
 taken-most : (h : List ℕ) (l : ℕ) → code (header-and-table h l) ≤ 8
-unfolding header-and-table header-length verdict-to-8 sheet-form line-and-length
+unfolding header-and-table header-length
 taken-most h l =
-    or-most _ _ (if-most _ SheetForm (omega arith))
-    (or-most _ _ (if-most _ SheetForm (omega arith)) (or-most _ _ (header-most _ _ _ _ _ _) (length-most _ _)))
+    or-most (header-length h) (verdict-to-8 h l) (if-most (not (eqb (length h) 12)) SheetForm (omega arith)) (to-8-most h l)
 
 -- ---- cause 14
 
