@@ -1,0 +1,2 @@
+-- OutputLaws are of what is written to the output.
+pub mod OutputLaws

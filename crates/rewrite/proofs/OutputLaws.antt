@@ -1,0 +1,113 @@
+-- Laws of the output: a sheet at its start, and what the reader's answer makes of it. Assumes nothing.
+use Prim.Native.Nat.{ℕ, _≤_, min}
+use mathlib.Core.Path.{_≡_, sym, ap, _∙_}
+use mathlib.Core.List.{List, [], _∷_, _++_}
+use native.Mathlib.Nat.{min-eq-left, zero-add}
+use native.Mathlib.Omega.{arith}
+use lib.ListN.{length, take, drop, length-append}
+use lib.Seq.{take-append-seam, length-take-le}
+use Rattle.line.specs.Line.{largest-table}
+use Rattle.line.proofs.LineLaws.{table-bound}
+use Rattle.refusal.specs.Cause.{number}
+use Rattle.refusal.specs.declared.cause.Cause.{Cause}
+use Rattle.refusal.specs.declared.cause.Verdict.the-variants as verdict
+use Rattle.refusal.proofs.VerdictLaws.{both-accepted}
+use Rattle.header.proofs.HeaderLaws.{length-accepts}
+use Rattle.layout.specs.declared.Header.{Header}
+use Rattle.layout.specs.Layout.{header, table-wanted}
+use Rattle.judgement.specs.Judgement.{verdict-to-8, chain-verdict, sheet-verdict}
+use Rattle.sheet.specs.declared.Reading.{Reading}
+use Rattle.sheet.specs.declared.Reading.the-variants as reading
+use Rattle.sheet.specs.Reading.{table-of, Reads}
+use Rattle.text.specs.Laid.{Puts}
+use Rattle.text.proofs.LaidLaws.{laid-whole, laid-length, after-within}
+use Rattle.lines.specs.Lines as lines
+use Rattle.lines.specs.Text.{text}
+use Rattle.lines.proofs.LineLaws.{refusal-short}
+use Rattle.lines.proofs.VerdictLaws.{read-accepted, read-refused, verdict-same}
+use Rattle.writer.specs.declared.Need.{Need}
+use Rattle.writer.specs.declared.Need.the-variants as need
+use Rattle.writer.specs.declared.Writing.{Writing}
+use Rattle.writer.specs.Sheet.{sheet, sheet-length}
+use Rattle.writer.specs.Judgement.{before-buffer, write-verdict}
+use Rattle.writer.specs.Writing.{Needs, Writes}
+use Rattle.writer.proofs.PromiseLaws.{told-accepted, told-bytes, told-most}
+use Rattle.normal.specs.Normal.{rewritten}
+use Rattle.normal.specs.Output.{output, Rewritten}
+use Rattle.normal.proofs.SheetLaws.{length-is}
+use Rattle.normal.proofs.FrontLaws.{form}
+use Rattle.normal.proofs.Theorems.{normal-form}
+
+-- ---- a sheet, written
+
+module _ (h table : List ℕ) {answer : Need} (n : Needs h table answer) where
+  -- what nothing refuses is given its length
+  pub not-refused : (c : Cause) {A : Type 0} → before-buffer h table ≡ verdict.Accepted → answer ≡ need.Refused c → A
+  not-refused c w e =
+      let a : need.Refused c ≡ need.Bytes (sheet-length h table) = sym e ∙ n .answer-is ∙ rw w in
+      let z : _≡_ {A = ℕ} 0 1 = cc in
+      absurd (omega arith)
+
+  module _ (l : ℕ) (e : answer ≡ need.Bytes l) where
+    needs : Needs h table (need.Bytes l)
+    needs = rw (← e) n
+
+    -- the longest sheet's buffer has room for it
+    pub room : (size : ℕ) → size ≡ 32780 → l ≤ size
+    room size q = omega (arith, q, told-most h table l needs)
+
+    -- and all of it stands at the start
+    pub stands : (out bytes : List ℕ) {written : Writing} → length out ≡ 32780 → Writes h table (take l out) bytes written
+        → (l ≤ length (bytes ++ drop l out)) × (take l (bytes ++ drop l out) ≡ sheet h table)
+    unfolding write-verdict sheet-length
+    stands out bytes q w =
+        let long : length (take l out) ≡ l = length-take-le l out (room (length out) q) in
+        let v : write-verdict h table (length (take l out)) ≡ verdict.Accepted =
+        rw (told-accepted h table l needs, length-accepts (sheet-length h table) (length (take l out)) (long ∙ told-bytes h table l needs)) in
+        let b : bytes ≡ sheet h table = rw v at (w .sheet-is) in
+        let m : length bytes ≡ l = rw b (length-is h table) ∙ sym (told-bytes h table l needs) in
+        (rw (length-append bytes (drop l out)) (omega (arith, m)), ap (λ (i : ℕ). take i (bytes ++ drop l out)) (sym m) ∙ take-append-seam bytes (drop l out) ∙ b)
+
+-- ---- by the reader's answer
+
+module _ (s table₀ table₁ : List ℕ) {answer : Reading} (r : Reads s table₀ table₁ answer) (lent : length table₀ ≡ min (table-wanted s) largest-table) where
+  -- the verdict is the sheet's own
+  own : sheet-verdict s (length table₀) (r .fate) ≡ lines.verdict s (r .fate)
+  own = verdict-same s (r .fate) (length table₀)
+      (λ sound. lent ∙ min-eq-left (table-bound (header s .n) (header s .t) (header s .upper) (sound .most) (sound .fits)))
+
+  module _ (h : Header) (e : answer ≡ reading.Accepted h) where
+    accepted : sheet-verdict s (length table₀) (r .fate) ≡ verdict.Accepted
+    accepted = read-accepted s table₀ table₁ r h e .0
+
+    table-is : table₁ ≡ table-of s (r .fate)
+    table-is = rw accepted at (r .table-is)
+
+    -- the sheet has a header
+    pub headed : 12 ≤ length s
+    unfolding sheet-verdict
+    headed =
+        let opened = both-accepted (verdict-to-8 s (length table₀)) (chain-verdict s (r .fate)) accepted .0 in
+        omega (arith, form s (length table₀) opened .length-is)
+
+    -- what was read can be written
+    pub writable : before-buffer (take 12 s) table₁ ≡ verdict.Accepted
+    writable = rw table-is (normal-form s (length table₀) (r .fate) accepted .writable)
+
+    pub accepted-output : (out : List ℕ) (n : ℕ) → (n ≤ length out) × (take n out ≡ sheet (take 12 s) table₁) → Rewritten s out n
+    unfolding output rewritten
+    accepted-output out n w = record { fate = r .fate; inside = w .0; whole = w .1 ∙ rw (← own, accepted, table-is) }
+
+  pub refused-output : (c : Cause) (k : ℕ) → answer ≡ reading.Refused c → k ≡ number c → (out₀ out₁ : List ℕ) (n : ℕ) → length out₀ ≡ 32780
+      → Puts out₀ out₁ 0 (text ((lines.refused ∷ lines.num k ∷ []) ∷ [])) n → Rewritten s out₁ n
+  unfolding output
+  refused-output c k e q out₀ out₁ n z p =
+      let line = text ((lines.refused ∷ lines.num k ∷ []) ∷ []) in
+      let short = refusal-short k in
+      let here : length line ≤ length out₀ = omega (arith, short, z) in
+      let n-is : n ≡ length line = p .answer-is ∙ after-within 0 (length line) (omega (arith, short)) ∙ zero-add (length line) in
+      record {
+        fate = r .fate;
+        inside = rw (n-is, p .text-is, laid-length) here;
+        whole = rw (n-is, p .text-is) (laid-whole line out₀ here ∙ rw (← own, read-refused s table₀ table₁ r c e, ← q));
+      }

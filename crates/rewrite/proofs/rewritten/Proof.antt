@@ -1,0 +1,38 @@
+-- `rewritten` meets its contract: the table and the output are long enough for every sheet.
+use borrow.Author.Needs.{needs}
+use Prim.Native.Nat.{ℕ, _≤_}
+use mathlib.Core.Path.{sym, _∙_}
+use native.Mathlib.Omega.{arith}
+use lib.ListN.{length, replicate, length-replicate}
+use lib.Seq.{length-take-le}
+use Rattle.rewrite.proofs.rewritten.Statement.{statement}
+use Rattle.rewrite.proofs.rewritten.Tie as tie
+
+-- what is lent of the table is within it
+enough : (b r : ℕ) → r ≤ 36864 → r ≤ length (replicate 36864 b)
+enough b r h = omega (arith, length-replicate 36864 b)
+
+room-requires : tie.Need-room-requires
+room-requires c κs = search needs
+
+array-borrow-prefix-table : tie.Need-array-borrow-prefix-table
+array-borrow-prefix-table c = search needs
+
+slice-aggregate-rewrite : tie.Need-slice-aggregate-rewrite
+slice-aggregate-rewrite c = sym (length-take-le _ _ (enough 255 _ (c .before .room .ensures .1)))
+
+rewrite-requires : tie.Need-rewrite-requires
+rewrite-requires c κs = (length-take-le _ _ (enough 255 _ (c .before .before .room .ensures .1)) ∙ c .before .before .room .ensures .0, omega arith)
+
+returns : tie.Need-returns
+returns c = let l = c .before .rewrite .ensures in (l, (l .inside, sym (length-take-le _ _ (l .inside))))
+
+pub rewritten-spec : {M : Type 1} → statement M
+rewritten-spec =
+    tie.close
+    (tie.spec
+    room-requires
+    array-borrow-prefix-table
+    slice-aggregate-rewrite
+    rewrite-requires
+    returns)

@@ -1,0 +1,87 @@
+// Reads a run sheet on standard input and writes its normal form to standard output; of a sheet that is refused, the line that agree writes.
+ghost use mathlib.Core.Path.{_≡_};
+ghost use Prim.Native.Nat.{_≤_, min};
+ghost use lib.ListN.{length, take};
+ghost use Rattle.io.specs.Counts.{Counts};
+ghost use Rattle.line.specs.Line.{largest-table};
+ghost use Rattle.refusal.specs.declared.cause.Verdict.the-variants.{Accepted};
+ghost use Rattle.layout.specs.Layout.{table-wanted};
+ghost use Rattle.writer.specs.Sheet.{sheet};
+ghost use Rattle.writer.specs.Judgement.{before-buffer};
+ghost use Rattle.normal.specs.Output.{Rewritten};
+use input::Input;
+use libc::STDERR_FILENO;
+use libc::STDIN_FILENO;
+use libc::STDOUT_FILENO;
+use sheet::Reading;
+use writer::Need;
+
+// The longest sheet, of 4,096 records.
+const LONGEST: usize = 32780;
+
+// The table length of the sheet's line, or the largest table's where that is less.
+fn room(sheet: &[u8]) -> usize
+    ensures { λ r. ⌜ (r ≡ min (table-wanted (now (sheet .entry))) largest-table) × (r ≤ largest-table) ⌝ }
+{
+    let len = layout::table_len(sheet);
+    if len < 36864 { len } else { 36864 }
+}
+
+// Writes a sheet that nothing refuses at the start of the output.
+fn write(header: &[u8], table: &[u8], out: &mut [u8]) -> usize
+    requires { ⌜ (before-buffer (now header) (now table) ≡ Accepted) × (length (now out) ≡ 32780) ⌝ }
+    ensures { λ r. ⌜ (r ≤ length (now (out .exit))) × (take r (now (out .exit)) ≡ sheet (now (header .entry)) (now (table .entry))) ⌝ }
+{
+    let need = writer::needed(header, table);
+    match need {
+        Need::Bytes(len) => {
+            writer::write(header, table, &mut out[..len]);
+            len
+        }
+        Need::Refused(_) => 0,
+    }
+}
+
+// Reads a sheet into the table, and writes what was read.
+fn rewrite(sheet: &[u8], table: &mut [u8], out: &mut [u8]) -> usize
+    requires { ⌜ (length (now table) ≡ min (table-wanted (now sheet)) largest-table) × (length (now out) ≡ 32780) ⌝ }
+    ensures { λ r. ⌜ Rewritten (now (sheet .entry)) (now (out .exit)) r ⌝ }
+{
+    let reading = sheet::read(sheet, table);
+    match reading {
+        Reading::Accepted(_) => write(&sheet[..12], table, out),
+        Reading::Refused(c) => lines::of_refusal(out, c.number()),
+    }
+}
+
+// The whole normal form of a sheet, or its refusal's line, at the start of the output: no table and no sheet is too long for the buffers.
+fn rewritten(sheet: &[u8], out: &mut [u8; LONGEST]) -> usize
+    ensures { λ r. ⌜ Rewritten (now (sheet .entry)) (now (out .exit)) r × Counts r (now (out .exit)) ⌝ }
+{
+    let mut table = [255; 36864];
+    let len = room(sheet);
+    rewrite(sheet, &mut table[..len], out)
+}
+
+// Writes a sheet's normal form to standard output.
+fn put(sheet: &[u8]) {
+    let mut out = [0u8; LONGEST];
+    let n = rewritten(sheet, &mut out);
+    if !io::write_all(STDOUT_FILENO, &out[..n]) {
+        io::write_all(STDERR_FILENO, b"rewrite: the sheet could not be written\n");
+    }
+}
+
+// One byte more than the longest sheet tells that an input is longer.
+fn main() {
+    let mut sheet = [0u8; 32781];
+    match input::whole(STDIN_FILENO, &mut sheet) {
+        Input::Bytes(n) => put(&sheet[..n]),
+        Input::Failed => {
+            io::write_all(
+                STDERR_FILENO,
+                b"rewrite: standard input could not be read\n",
+            );
+        }
+    }
+}
