@@ -115,6 +115,9 @@ pub(crate) fn sheet(header: &[u8], table: &[u8], sheet: &mut [u8], k: usize)
     ensures { λ _. ⌜ now (sheet .exit) ≡ sheet-of (now (header .entry)) (now (table .entry)) ⌝ }
 {
     record::put_header(header, sheet, k);
+    if k == 0 {
+        return;
+    }
     let h = layout::header_of(header);
     put_records(h, table, sheet, k);
 }
