@@ -1,5 +1,5 @@
 -- What the reader makes of a written sheet: "The reader gives the table back, with 255 at the unmarked senders".
-use Prim.Native.Nat.{ℕ, _≤_, _<_}
+use Prim.Native.Nat.{ℕ, _<_}
 use mathlib.Core.Path.{_≡_}
 use mathlib.Core.List.{List}
 use lib.ListN.{length, getD}

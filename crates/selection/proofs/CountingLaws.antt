@@ -18,7 +18,7 @@ use Rattle.line.specs.Line.{table-length, place}
 use Rattle.line.specs.Ballot.{silence}
 use Rattle.line.proofs.CountLaws.{count-same, count-none}
 use Rattle.line.proofs.MarksLaws.{marked-above}
-use Rattle.line.proofs.LineLaws.{next-row, row-within, place-from-start, place-from}
+use Rattle.line.proofs.LineLaws.{next-row, place-from-start, place-from}
 use Rattle.layout.specs.declared.Header.{Header}
 use Rattle.selection.specs.Places.{from-at, to-write, how-many}
 use Rattle.selection.specs.Counted.{counted}

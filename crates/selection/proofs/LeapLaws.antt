@@ -6,11 +6,11 @@ use mathlib.Core.Logic.{_≢_, ⊎-elim}
 use mathlib.Core.List.{List}
 use native.Mathlib.Nat.{eq-or-lt-of-le}
 use native.Mathlib.Omega.{arith}
-use lib.ListN.{length, getD, set, replicate, getD-replicate, length-replicate, length-set}
+use lib.ListN.{length, getD, set, replicate, getD-replicate}
 use lib.Seq.{getD-set-same, getD-set-other}
 use Rattle.line.specs.Count.{if_then_else_}
 use Rattle.line.specs.Marks.{marked}
-use Rattle.selection.specs.Leaps.{First, Leaps}
+use Rattle.selection.specs.Leaps.{First}
 
 module _ (marks n : ℕ) where
   -- none follows the last

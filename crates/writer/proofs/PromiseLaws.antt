@@ -1,19 +1,18 @@
 -- Laws of what the calls promise: what no cause refuses, and the promises by what the verdict is. Assumes nothing.
 use Prim.Native.Nat.{ℕ, _+_, _-_, _*_, _/_, _≤_, _<_}
 use mathlib.Core.Path.{_≡_, refl, sym, ap, _∙_}
-use mathlib.Core.Bool.{not}
 use mathlib.Core.Logic.{_≢_}
 use mathlib.Core.List.{List, [], _∷_, _++_, append-nil}
 use native.Mathlib.Nat.{le-refl}
 use native.Mathlib.Omega.{arith}
 use lib.Dec.{eqb}
-use lib.ListN.{length, drop, length-append}
+use lib.ListN.{length, length-append}
 use lib.Seq.{drop-length}
 use borrow.Author.Tests.{eqb-true, ne-eqb, not-false, lt-ltb, le-ltb, ltb-false}
 use Rattle.line.specs.Line.{rounds, table-length}
-use Rattle.refusal.specs.Cause.{_or-else_, code, written, given}
+use Rattle.refusal.specs.Cause.{code, written, given}
 use Rattle.refusal.specs.declared.cause.Cause.{Cause}
-use Rattle.refusal.specs.declared.cause.Cause.the-variants.{SheetForm, Length, TooManyRecords}
+use Rattle.refusal.specs.declared.cause.Cause.the-variants.{Length, TooManyRecords}
 use Rattle.refusal.specs.declared.cause.Verdict.{Verdict}
 use Rattle.refusal.specs.declared.cause.Verdict.the-variants as verdict
 use Rattle.refusal.proofs.VerdictLaws.{both-accepted, accepted-false, refused-true, refused-false}
@@ -40,7 +39,7 @@ use Rattle.record.proofs.PutLaws.{header-there}
 use Rattle.writer.specs.Sheet.{records-bytes, sheet, sheet-length}
 use Rattle.writer.specs.Judgement.{header-length, header-and-table, too-many, before-buffer, write-verdict}
 use Rattle.writer.specs.Writing.{need-number, need-values, need-by, writing-number, writing-values, writing-by, Needs, Writes}
-use Rattle.writer.specs.Loops.{Ready, Unrefused, Goes-on}
+use Rattle.writer.specs.Loops.{Unrefused, Goes-on}
 use Rattle.writer.proofs.RecordLaws.{records-length, records-none}
 use Rattle.line.proofs.CountLaws.{count-zero}
 

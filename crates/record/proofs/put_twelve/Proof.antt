@@ -1,7 +1,6 @@
 -- `put_twelve` meets its contract: three times four bytes.
 use borrow.Author.Needs.{needs}
-use native.Mathlib.Omega.{arith}
-use mathlib.Core.Path.{sym, _∙_}
+use mathlib.Core.Path.{_∙_}
 use Rattle.layout.specs.Layout.{byte}
 use Rattle.record.specs.Bytes.{header-bytes}
 use Rattle.record.proofs.PutLaws.{laid-twelve}

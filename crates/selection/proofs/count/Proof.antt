@@ -1,6 +1,5 @@
 -- `count` meets its contract: none where nobody is marked, of a line that is too large, or of a table of another length.
 use borrow.Author.Needs.{needs}
-use native.Mathlib.Omega.{arith}
 use mathlib.Core.Path.{sym, _∙_}
 use Rattle.selection.proofs.CountingLaws.{counted-nobody, counted-large, counted-none, counted-is}
 use Rattle.selection.proofs.count.Statement.{statement}

@@ -2,12 +2,10 @@
 use borrow.Author.Needs.{needs}
 use native.Mathlib.Nat.{mul-le-mul-right}
 use native.Mathlib.Omega.{arith}
-use Prim.Native.Nat.{ℕ, _+_, _-_, _*_, _≤_, _<_}
-use mathlib.Core.Path.{_≡_, ap, _∙_}
+use Prim.Native.Nat.{_+_, _-_, _*_, _≤_, _<_}
+use mathlib.Core.Path.{_≡_}
 use mathlib.Core.Bool.{true}
-use lib.ListN.{length, getD}
 use Rattle.line.specs.Marks.{marked}
-use Rattle.line.specs.Count.{count}
 use Rattle.line.proofs.CountLaws.{count-le}
 use Rattle.line.proofs.LineLaws.{product-fits, next-row, row-within}
 use Rattle.selection.specs.Places.{to-write}

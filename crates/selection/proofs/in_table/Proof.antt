@@ -1,14 +1,12 @@
 -- `in_table` meets its contract. The loop's invariant: k bytes of the rounds so far are to be written.
 use borrow.Author.Needs.{needs}
 use native.Mathlib.Omega.{arith}
-use Prim.Native.Nat.{_+_, _-_, _*_, _≤_}
-use mathlib.Core.Path.{_≡_, sym, _∙_}
-use lib.ListN.{length}
+use Prim.Native.Nat.{_-_, _*_, _≤_}
+use mathlib.Core.Path.{_≡_, sym}
 use Rattle.line.specs.Count.{count}
 use Rattle.line.proofs.CountLaws.{count-zero, count-le}
 use Rattle.line.proofs.LineLaws.{product-fits}
 use Rattle.selection.specs.Places.{to-write}
-use Rattle.selection.specs.Leaps.{Leaps}
 use Rattle.selection.proofs.CountingLaws.{round-rows, no-rounds, next-round, round-within}
 use Rattle.selection.proofs.in_table.Statement.{statement}
 use Rattle.selection.proofs.in_table.Tie as tie

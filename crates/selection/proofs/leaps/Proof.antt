@@ -1,8 +1,8 @@
 -- `leaps` meets its contract. The loop's invariant: the places from i on are found.
 use borrow.Author.Needs.{needs}
 use native.Mathlib.Omega.{arith}
-use Prim.Native.Nat.{ℕ, _+_, _-_, _≤_}
-use mathlib.Core.Path.{_≡_, _∙_}
+use Prim.Native.Nat.{_+_, _-_, _≤_}
+use mathlib.Core.Path.{_≡_}
 use lib.ListN.{length, length-set, length-replicate}
 use Rattle.selection.proofs.LeapLaws.{From, from-last, from-before}
 use Rattle.selection.proofs.leaps.Statement.{statement}

@@ -1,6 +1,5 @@
 -- `header_and_table` meets its contract: the header's length comes first.
 use borrow.Author.Needs.{needs}
-use mathlib.Core.Path.{sym}
 use borrow.Author.Tests.{eq-eqb, ne-eqb}
 use Rattle.refusal.specs.Cause.{refused-if}
 use Rattle.writer.specs.Judgement.{header-length, header-and-table}

@@ -1,8 +1,7 @@
 -- `put::put_byte` meets its contract: silence is not written.
 use borrow.Author.Needs.{needs}
 use native.Mathlib.Omega.{arith}
-use Prim.Native.Nat.{_+_}
-use mathlib.Core.Path.{_≡_, _∙_}
+use mathlib.Core.Path.{_∙_}
 use Rattle.writer.proofs.PutLaws.{spoken-none, spoken-one, put-none, put-there}
 use Rattle.writer.proofs.put.put_byte.Statement.{statement}
 use Rattle.writer.proofs.put.put_byte.Tie as tie

@@ -1,8 +1,8 @@
 -- `put::put_row` meets its contract. The loop's invariant: the records of the first j bytes are in the sheet.
 use borrow.Author.Needs.{needs}
 use native.Mathlib.Omega.{arith}
-use Prim.Native.Nat.{ℕ, _+_, _-_, _≤_}
-use mathlib.Core.Path.{_≡_, refl, sym, ap, _∙_}
+use Prim.Native.Nat.{_+_, _-_, _≤_}
+use mathlib.Core.Path.{_≡_, refl, _∙_}
 use lib.ListN.{length}
 use Rattle.line.specs.Count.{count}
 use Rattle.selection.specs.Places.{to-write}
