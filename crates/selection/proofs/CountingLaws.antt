@@ -22,7 +22,7 @@ use Rattle.line.proofs.LineLaws.{next-row, place-from-start, place-from}
 use Rattle.layout.specs.declared.Header.{Header}
 use Rattle.selection.specs.Places.{from-at, to-write, how-many}
 use Rattle.selection.specs.Counted.{counted}
-use Rattle.selection.specs.Leaps.{First}
+use Rattle.selection.proofs.LeapLaws.{First}
 use Rattle.selection.specs.Loops.{Row, Round, spoken, speaks, More}
 
 -- ---- counting on from a place

@@ -40,7 +40,7 @@ fn leap(marks: u32, i: u8, after: u8) -> u8
     if marks::is_marked(marks, i) { i } else { after }
 }
 
-// The first marked station of n from each station on, n where none follows. Stations are counted from 0. A line has at most 32 of them; of another nothing is told.
+// The first marked station of n from each station on, n where none follows, and in a line of more than 32. Stations are counted from 0.
 pub fn leaps(marks: u32, n: u8) -> [u8; 33]
     ensures { λ r. ⌜ Leaps marks n r ⌝ }
 {

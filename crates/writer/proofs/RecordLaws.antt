@@ -22,7 +22,7 @@ use Rattle.layout.specs.declared.Header.{Header}
 use Rattle.record.specs.Bytes.{eight}
 use Rattle.selection.specs.Places.{round-at, from-at, to-at, to-write, how-many, place-written}
 use Rattle.writer.specs.Sheet.{next-index, record-of, record-bytes, records-bytes}
-use Rattle.selection.specs.Leaps.{First}
+use Rattle.selection.proofs.LeapLaws.{First}
 use Rattle.selection.specs.Loops.{Round, spoken}
 use Rattle.selection.proofs.CountingLaws.{round-rows, skip, leap-first}
 use Rattle.writer.specs.Loops.{put-at, Goes-on, Ready, Of-sender, Of-round}

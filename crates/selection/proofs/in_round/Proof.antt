@@ -10,6 +10,7 @@ use Rattle.line.proofs.CountLaws.{count-le}
 use Rattle.line.proofs.LineLaws.{product-fits, next-row, row-within}
 use Rattle.selection.specs.Places.{to-write}
 use Rattle.selection.specs.Loops.{speaks, More}
+use Rattle.selection.proofs.LeapLaws.{leaps-first}
 use Rattle.selection.proofs.CountingLaws.{leap-first, leap-on}
 use Rattle.selection.proofs.in_round.Statement.{statement}
 use Rattle.selection.proofs.in_round.Tie as tie
@@ -26,13 +27,13 @@ element-copy-out-i c = search needs
 cast-i : tie.Need-cast-i Inv-loop μ-loop
 cast-i c =
     let s = c .before .before in
-    omega (arith, s .pre .0, s .pre .3 .first (s .pre .0) 0 (omega arith) .high)
+    omega (arith, s .pre .0, (leaps-first (s .args .marks) (s .args .n) _ (s .pre .3) (s .pre .0) 0 (omega arith)) .high)
 
 loop-holds : tie.Need-loop-holds Inv-loop μ-loop
 loop-holds c =
     let s = c .before .before in
     let a = s .args in
-    let f = s .pre .3 .first (s .pre .0) 0 (omega arith) in
+    let f = leaps-first (s .args .marks) (s .args .n) _ (s .pre .3) (s .pre .0) 0 (omega arith) in
     (f .high, f .there, leap-first (a .n) (a .marks) (a .table .now) (a .at) (s .pre .2) _ f, omega arith)
 
 mul-in-row : tie.Need-mul-in-row Inv-loop μ-loop
@@ -70,13 +71,13 @@ cast-i-2 : tie.Need-cast-i-2 Inv-loop μ-loop
 cast-i-2 c =
     let l = c .before .before .before .loop in
     let s = c .before .before .before .before .before .before in
-    omega (arith, s .pre .0, s .pre .3 .first (s .pre .0) (l .i + 1) (omega arith) .high)
+    omega (arith, s .pre .0, (leaps-first (s .args .marks) (s .args .n) _ (s .pre .3) (s .pre .0) (l .i + 1) (omega arith)) .high)
 
 loop-less : tie.Need-loop-less Inv-loop μ-loop
 loop-less c =
     let l = c .before .before .before .loop in
     let s = c .before .before .before .before .before .before in
-    omega (arith, s .pre .3 .first (s .pre .0) (l .i + 1) (omega arith) .low)
+    omega (arith, (leaps-first (s .args .marks) (s .args .n) _ (s .pre .3) (s .pre .0) (l .i + 1) (omega arith)) .low)
 
 loop-again : tie.Need-loop-again Inv-loop μ-loop
 loop-again c =
@@ -84,7 +85,7 @@ loop-again c =
     let s = c .before .before .before .before .before .before in
     let a = s .args in
     let e = c .before .in-row .ensures in
-    let f = s .pre .3 .first (s .pre .0) (l .i + 1) (omega arith) in
+    let f = leaps-first (s .args .marks) (s .args .n) _ (s .pre .3) (s .pre .0) (l .i + 1) (omega arith) in
     let w = mul-le-mul-right (a .n) (f .low) in (
       f .high,
       f .there,

@@ -4,7 +4,7 @@ use native.Mathlib.Omega.{arith}
 use Prim.Native.Nat.{_+_, _-_, _≤_}
 use mathlib.Core.Path.{_≡_}
 use lib.ListN.{length, length-set, length-replicate}
-use Rattle.selection.proofs.LeapLaws.{From, from-last, from-before}
+use Rattle.selection.proofs.LeapLaws.{From, from-large, from-last, from-before}
 use Rattle.selection.proofs.leaps.Statement.{statement}
 use Rattle.selection.proofs.leaps.Tie as tie
 
@@ -15,7 +15,9 @@ abbrev μ-loop : tie.MeasureT-loop
 μ-loop marks n to₀ i₀ to i = i
 
 returns : tie.Need-returns Inv-loop μ-loop
-returns c = record { size = length-replicate 33 (c .before .args .n); first = λ h. absurd (omega arith) }
+returns c =
+    let a = c .before .args in
+    record { size = length-replicate 33 (a .n); each = λ i l. from-large (a .marks) (a .n) (c .if1 .taken) i (omega arith) l }
 
 loop-holds : tie.Need-loop-holds Inv-loop μ-loop
 loop-holds c =
@@ -54,13 +56,13 @@ loop-again c =
       omega arith,
       l .inv .1,
       simp length-set (l .inv .2),
-      from-before (a .marks) (a .n) (l .i - 1) _ (l .to) (omega arith) (omega (arith, l .inv .2)) (rw z (l .inv .3)) (c .leap .ensures),
+      from-before (a .marks) (a .n) (l .inv .1) (l .i - 1) _ (l .to) (omega arith) (omega (arith, l .inv .2)) (rw z (l .inv .3)) (c .leap .ensures),
     )
 
 returns-2 : tie.Need-returns-2 Inv-loop μ-loop
 returns-2 c =
     let l = c .before .loop in
-    record { size = l .inv .2; first = λ h j b. l .inv .3 j (omega arith) b }
+    record { size = l .inv .2; each = λ j b. l .inv .3 j (omega arith) b }
 
 pub leaps-spec : {M : Type 1} → statement M
 leaps-spec =

@@ -11,6 +11,7 @@ use Rattle.line.specs.Line.{rounds}
 use Rattle.line.proofs.LineLaws.{product-fits, place-below}
 use Rattle.selection.specs.Places.{to-write}
 use Rattle.writer.specs.Loops.{Goes-on}
+use Rattle.selection.proofs.LeapLaws.{leaps-first}
 use Rattle.writer.proofs.RecordLaws.{ready-on, table-short, leapt-first, leapt-on, sender-of}
 use Rattle.writer.proofs.put.put_round.Statement.{statement}
 use Rattle.writer.proofs.put.put_round.Tie as tie
@@ -33,7 +34,7 @@ loop-holds : tie.Need-loop-holds Inv-loop μ-loop
 loop-holds c =
     let s = c .before .before .before .before in
     let a = s .args in
-    let f = s .pre .2 .first (s .pre .0 .few) 0 (omega arith) in
+    let f = leaps-first (s .args .h .marks) (s .args .h .n) _ (s .pre .2) (s .pre .0 .few) 0 (omega arith) in
     (f .high, f .there, refl, leapt-first (a .h) (a .table .now) (a .round) (a .at) (s .pre .1) _ (a .m) f (s .pre .0 .before), λ z e. e)
 
 add-put-row : tie.Need-add-put-row Inv-loop μ-loop
@@ -79,7 +80,7 @@ loop-less : tie.Need-loop-less Inv-loop μ-loop
 loop-less c =
     let l = c .before .before .before .before .before .before .before .loop in
     let s = c .before .before .before .before .before .before .before .before .before .before .before .before in
-    omega (arith, s .pre .2 .first (s .pre .0 .few) (l .i + 1) (omega arith) .low)
+    omega (arith, (leaps-first (s .args .h .marks) (s .args .h .n) _ (s .pre .2) (s .pre .0 .few) (l .i + 1) (omega arith)) .low)
 
 loop-again : tie.Need-loop-again Inv-loop μ-loop
 loop-again c =
@@ -87,7 +88,7 @@ loop-again c =
     let s = c .before .before .before .before .before .before .before .before .before .before .before .before in
     let a = s .args in
     let p = c .before .before .before .put-row in
-    let f = s .pre .2 .first (s .pre .0 .few) (l .i + 1) (omega arith) in (
+    let f = leaps-first (s .args .h .marks) (s .args .h .n) _ (s .pre .2) (s .pre .0 .few) (l .i + 1) (omega arith) in (
       f .high,
       f .there,
       p .kept .1 .1 .0 ∙ l .inv .2,
