@@ -13,7 +13,10 @@ import sys
 from counting import closing
 
 TOP = pathlib.Path(__file__).resolve().parent.parent
-DOCUMENTS = ["README.md", "docs/PROMISES.md", "docs/AUDIT.md", "docs/DECISIONS.md", "controller/README.md", "peer/README.md", "vectors/README.md"]
+DOCUMENTS = [
+    "README.md", "docs/PROMISES.md", "docs/AUDIT.md", "docs/DECISIONS.md", "controller/README.md", "peer/README.md", "vectors/README.md",
+    *sorted(str(page.relative_to(TOP)) for page in TOP.glob("docs/changes/*.md")),
+]
 WORD = re.compile(r"[\w\-′]+")
 NAME = re.compile(r"[A-Za-z_][\w\-′]*(::[A-Za-z_]\w*)*\Z")
 PATH = re.compile(r"[\w.*\-]*/[\w./*\-]+\Z")
