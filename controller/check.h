@@ -6,6 +6,7 @@
 #include <stdint.h>
 #include <stdio.h>
 #include <stdlib.h>
+#include <string.h>
 #include <sys/mman.h>
 #include <unistd.h>
 
@@ -30,6 +31,21 @@ static inline int check(int ok, const char *what, ...)
         va_end(args);
     }
     return 0;
+}
+
+/* Of the numbers below `numbers` a call has given those that it can give, and no
+   other, by how often it gave each. */
+static inline void check_met(const char *name, const unsigned long *met, int numbers, const char *can)
+{
+    char line[256] = "", list[64] = "";
+    for (int k = 0; k < numbers; k++) {
+        if (met[k] == 0)
+            continue;
+        sprintf(list + strlen(list), "%s%d", *list ? " " : "", k);
+        sprintf(line + strlen(line), "  %d: %lu", k, met[k]);
+    }
+    printf("%s by lot, answers by number:%s\n", name, line);
+    check(strcmp(list, can) == 0, "%s by lot: numbers %s, not %s", name, list, can);
 }
 
 /* The last line; the exit status of the program. */

@@ -392,17 +392,8 @@ static void all_met(void)
 {
     static const char *const can[CALLS] = {"0 2 3 4 5", "0 2 3 4 7", "0 2 3 4 7 8", "0 2 3 4 7 8",
                                              "0 2 3 4 7"};
-    for (int call = 0; call < CALLS; call++) {
-        char line[256] = "", list[64] = "";
-        for (int k = 0; k < NUMBERS; k++) {
-            if (met[call][k] == 0)
-                continue;
-            sprintf(list + strlen(list), "%s%d", *list ? " " : "", k);
-            sprintf(line + strlen(line), "  %d: %lu", k, met[call][k]);
-        }
-        printf("%s by lot, answers by number:%s\n", call_name[call], line);
-        check(strcmp(list, can[call]) == 0, "%s by lot: numbers %s, not %s", call_name[call], list, can[call]);
-    }
+    for (int call = 0; call < CALLS; call++)
+        check_met(call_name[call], met[call], NUMBERS, can[call]);
 }
 
 static void by_lot(void)

@@ -367,17 +367,8 @@ static void block(void)
 static void all_met(void)
 {
     static const char *const name[] = {"vembopu_sheet_len", "vembopu_write"};
-    for (int call = 0; call < 2; call++) {
-        char line[256] = "", list[64] = "";
-        for (int k = 0; k < NUMBERS; k++) {
-            if (met[call][k] == 0)
-                continue;
-            sprintf(list + strlen(list), "%s%d", *list ? " " : "", k);
-            sprintf(line + strlen(line), "  %d: %lu", k, met[call][k]);
-        }
-        printf("%s by lot, answers by number:%s\n", name[call], line);
-        check(strcmp(list, "0 1 2 3 4 5 6 8 14") == 0, "%s by lot: numbers %s", name[call], list);
-    }
+    for (int call = 0; call < 2; call++)
+        check_met(name[call], met[call], NUMBERS, "0 1 2 3 4 5 6 8 14");
 }
 
 int main(void)
