@@ -7,51 +7,39 @@ use mathlib.Core.Logic.{_⊎_, inl, inr, _≢_}
 use native.Mathlib.Omega.{arith}
 use native.Mathlib.Nat.{eq-zero-or-pos}
 use lib.Dec.{eqb, ltb}
-use borrow.Author.Tests.{eqb-true, lt-ltb, le-ltb, le-leb, lt-leb, eq-eqb, ne-eqb}
+use borrow.Author.Tests.{eqb-true, eqb-false, lt-ltb, le-ltb, le-leb, lt-leb, eq-eqb, ne-eqb}
 use Rattle.line.specs.Count.{if_then_else_, count}
 use Rattle.line.specs.Ballot.{blank, read-first, read-second, read-king}
-use Rattle.line.proofs.CountLaws.{if-true, if-false, le-or-lt, count-zero, count-hit, count-miss, count-le, count-same, count-not, count-none, cover, mono, disjoint}
-use Rattle.line.proofs.BallotLaws.{read-first-keeps, read-first-default, read-first-bit, read-second-keeps, read-second-bound, read-second-because, read-king-keeps, read-king-bit}
+use Rattle.line.proofs.CountLaws.{if-true, if-false, le-or-lt, count-zero, count-hit, count-miss, count-le, count-same, count-none, cover, mono, disjoint}
+use Rattle.line.proofs.BallotLaws.{read-first-bound, read-first-keeps, read-first-because, read-second-keeps, read-second-bound, read-second-because, read-king-keeps, read-king-unreadable, read-king-bit}
 use Rattle.broadcast.specs.Exchange.{Row, tally, firsts, seconds, z-from, z-of, y-from, y-of, for-y, grade-of, flag-of}
 use Rattle.broadcast.specs.Broadcast.{obey}
 
 -- ---- zeros, ones and blanks
 
+-- a reading by which only v is read as v: what counts for v are the bytes that are v
+tally-bytes : (read : ℕ → ℕ) (n v : ℕ) (row : Row) → read v ≡ v → ((b : ℕ) → read b ≡ v → b ≡ v)
+    → tally read n v row ≡ count n (λ i. eqb (row i) v)
+unfolding tally
+tally-bytes read n v row keeps only = count-same n _ _ (λ k _. go (row k) (eqb (row k) v) refl)
+  where
+    go : (b : ℕ) (c : Bool) → eqb b v ≡ c → eqb (read b) v ≡ eqb b v
+    go b true e = eq-eqb (read b) v (ap read (eqb-true b v e) ∙ keeps) ∙ sym e
+    go b false e = ne-eqb (read b) v (λ q. eqb-false b v e (only b q)) ∙ sym e
+
+pub first-bytes : (n v : ℕ) (row : Row) → v ≤ 1 → firsts n v row ≡ count n (λ i. eqb (row i) v)
+unfolding firsts
+first-bytes n v row h = tally-bytes read-first n v row (read-first-keeps v (omega arith)) (λ b. read-first-because b v h)
+
 pub blanks-for-neither : (n v : ℕ) (row : Row) → v ≤ 1 → seconds n v row ≡ count n (λ i. eqb (row i) v)
-unfolding seconds tally
-blanks-for-neither n v row h = count-same n _ _ (λ k _. go (row k) (le-or-lt (row k) 1))
-  where
-    go : (b : ℕ) → (b ≤ 1) ⊎ (1 < b) → eqb (read-second b) v ≡ eqb b v
-    go b (inl l) = rw (read-second-keeps b (omega arith))
-    go b (inr l) =
-        ne-eqb (read-second b) v (λ e. omega (arith, read-second-because b v h e)) ∙ sym (ne-eqb b v (λ e. omega arith))
+unfolding seconds
+blanks-for-neither n v row h = tally-bytes read-second n v row (read-second-keeps v (omega arith)) (λ b. read-second-because b v h)
 
--- in the first round a one is a byte that is 1
-pub ones-are-bytes : (n : ℕ) (row : Row) → firsts n 1 row ≡ count n (λ i. eqb (row i) 1)
-unfolding firsts tally
-ones-are-bytes n row = count-same n _ _ (λ k _. go (row k) (le-or-lt (row k) 1))
-  where
-    go : (b : ℕ) → (b ≤ 1) ⊎ (1 < b) → eqb (read-first b) 1 ≡ eqb b 1
-    go b (inl l) = rw (read-first-keeps b l)
-    go b (inr l) = rw (read-first-default b l) (sym (ne-eqb b 1 (λ e. omega arith)))
-
--- and every other ballot a zero
-pub zeros-and-ones : (n : ℕ) (row : Row) → firsts n 0 row + firsts n 1 row ≡ n
-unfolding firsts tally
-zeros-and-ones n row =
-    let e = count-same n (λ i. eqb (read-first (row i)) 0) (λ i. not (eqb (read-first (row i)) 1)) (λ i _. go _ (read-first-bit (row i))) in
-    omega (arith, e, count-not n (λ i. eqb (read-first (row i)) 1))
-  where
-    go : (b : ℕ) → b ≤ 1 → eqb b 0 ≡ not (eqb b 1)
-    go zero h = refl
-    go (suc zero) h = refl
-    go (suc (suc b)) h = absurd (omega arith)
-
--- and none anything else
-pub firsts-else : (n v : ℕ) (row : Row) → 1 < v → firsts n v row ≡ 0
+-- in the first round none is read as anything but 0, 1 and blank
+pub firsts-else : (n v : ℕ) (row : Row) → 2 < v → firsts n v row ≡ 0
 unfolding firsts tally
 firsts-else n v row h =
-    count-same n _ (λ _. false) (λ k _. ne-eqb (read-first (row k)) v (λ e. omega (arith, read-first-bit (row k)))) ∙ count-none n
+    count-same n _ (λ _. false) (λ k _. ne-eqb (read-first (row k)) v (λ e. omega (arith, read-first-bound (row k)))) ∙ count-none n
 
 -- what is 0, 1 or 2 everywhere: the three counts make n
 three : (f : ℕ → ℕ) → ((k : ℕ) → f k ≤ 2) → (n : ℕ)
@@ -69,6 +57,10 @@ three f h (suc n) = go (f n) (h n) (three f h n)
     go (suc zero) l ih = omega arith
     go (suc (suc zero)) l ih = omega arith
     go (suc (suc (suc x))) l ih = absurd (omega arith)
+
+pub firsts-make-n : (n : ℕ) (row : Row) → firsts n 0 row + firsts n 1 row + firsts n blank row ≡ n
+unfolding firsts tally
+firsts-make-n n row = three (λ k. read-first (row k)) (λ k. read-first-bound (row k)) n
 
 pub seconds-make-n : (n : ℕ) (row : Row) → seconds n 0 row + seconds n 1 row + seconds n blank row ≡ n
 unfolding seconds tally
@@ -97,7 +89,7 @@ module _ (read : ℕ → ℕ) (n : ℕ) (row : Row) where
 module _ (n : ℕ) (row : Row) where
   pub firsts-low : (v : ℕ) → v ≤ 1 → (p : ℕ → Bool) → ((k : ℕ) → k < n → p k ≡ true → row k ≡ v) → count n p ≤ firsts n v row
   unfolding firsts
-  firsts-low v h = tally-low read-first n row v (read-first-keeps v h)
+  firsts-low v h = tally-low read-first n row v (read-first-keeps v (omega arith))
 
   pub firsts-apart : (v w : ℕ) → v + w ≡ 1 → firsts n v row + firsts n w row ≤ n
   unfolding firsts
@@ -240,7 +232,7 @@ flag-bit g = go (ltb g 2)
     go false = omega arith
 
 -- the king's word
-pub obey-means : (g y b : ℕ) → (g ≡ 0 → obey g y b ≡ read-king b) × (1 ≤ g → obey g y b ≡ y)
+pub obey-means : (g y b : ℕ) → (g ≡ 0 → obey g y b ≡ read-king y b) × (1 ≤ g → obey g y b ≡ y)
 unfolding obey
 obey-means g y b = (λ h. if-true _ _ (eq-eqb g 0 h), λ h. if-false _ _ (ne-eqb g 0 (omega arith)))
 
@@ -312,8 +304,11 @@ pub obey-bit : (g y b : ℕ) → y ≤ 1 → obey g y b ≤ 1
 obey-bit g y b h = go (eq-zero-or-pos g)
   where
     go : (g ≡ 0) ⊎ (0 < g) → obey g y b ≤ 1
-    go (inl e) = rw (obey-means g y b .0 e) (read-king-bit b)
+    go (inl e) = rw (obey-means g y b .0 e) (read-king-bit y b h)
     go (inr e) = rw (obey-means g y b .1 e) h
 
 pub obey-king : (y b : ℕ) → b ≤ 1 → obey 0 y b ≡ b
-obey-king y b h = obey-means 0 y b .0 refl ∙ read-king-keeps b h
+obey-king y b h = obey-means 0 y b .0 refl ∙ read-king-keeps y b h
+
+pub obey-unreadable : (y b : ℕ) → 1 < b → obey 0 y b ≡ y
+obey-unreadable y b h = obey-means 0 y b .0 refl ∙ read-king-unreadable y b h

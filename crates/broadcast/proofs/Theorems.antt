@@ -1,6 +1,6 @@
 -- The theorems: each statement of specs/Theorems.antt, under its name, and the law that proves it. Assumes nothing.
-use Rattle.broadcast.specs.Theorems.{Blanks-count-for-neither, Ballots-make-n, Definition-6, Definition-6-alone, Exchange-effect, Exchange-bytes, Log-bytes, Part-by-rounds, Sent-by-rounds, Outcome-bytes, Table-effect, Demand-3, Unflagged-agree, Enough-unflagged, Enough-flags, Enough-show, Station-follows-run, Stations-make-run, Done-after-rows, Value-at-sender}
-use Rattle.broadcast.proofs.TallyLaws.{blanks-for-neither, seconds-make-n}
+use Rattle.broadcast.specs.Theorems.{First-counts, First-ballots-make-n, Blanks-count-for-neither, Ballots-make-n, Definition-6, Definition-6-alone, Exchange-effect, Exchange-bytes, Kings-word, Log-bytes, Part-by-rounds, Sent-by-rounds, Outcome-bytes, Table-effect, Demand-3, Unflagged-agree, Enough-unflagged, Enough-flags, Enough-show, Station-follows-run, Stations-make-run, Done-after-rows, Value-at-sender}
+use Rattle.broadcast.proofs.TallyLaws.{first-bytes, firsts-make-n, blanks-for-neither, seconds-make-n, obey-means, obey-king, obey-unreadable}
 use Rattle.broadcast.proofs.ExchangeLaws.{graded-consensus}
 use Rattle.broadcast.proofs.RoundLaws.{done-after, value-without-effect}
 use Rattle.broadcast.proofs.BroadcastLaws as whole
@@ -9,6 +9,12 @@ use Rattle.broadcast.proofs.PartLaws as part
 use Rattle.broadcast.proofs.SaidLaws as said
 use Rattle.broadcast.proofs.EffectLaws.{same-exchange, same-effect}
 use Rattle.broadcast.proofs.AssemblyLaws.{follows, make-run}
+
+pub first-counts : First-counts
+first-counts = first-bytes
+
+pub first-ballots-make-n : First-ballots-make-n
+first-ballots-make-n = firsts-make-n
 
 pub blanks-count-for-neither : Blanks-count-for-neither
 blanks-count-for-neither = blanks-for-neither
@@ -27,6 +33,9 @@ exchange-bytes = exchange-ranges
 
 pub exchange-effect : Exchange-effect
 exchange-effect = same-exchange
+
+pub kings-word : Kings-word
+kings-word g y b = record { readable = obey-king y b; unreadable = obey-unreadable y b; graded = obey-means g y b .1 }
 
 pub log-bytes : Log-bytes
 log-bytes R = record { size = log-size R; byte = log-at R }

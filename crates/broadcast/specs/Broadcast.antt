@@ -8,9 +8,10 @@ use Rattle.broadcast.specs.Exchange.{Setting, sends, z, y, grade, flag-o
 
 -- ---- the phases
 
--- "With grade 0 a station's new x is the king's ballot [..]; with grade 1 or 2 it is the station's own y.": b is the king's byte
+-- "With grade 0 a station's new x is the king's ballot [..]; with grade 1 or 2 it is the station's own y.": b is the king's byte, and y stands in for one
+-- that can't be read
 unfoldable pub obey : ℕ → ℕ → ℕ → ℕ
-obey g y b = if eqb g 0 then read-king b else y
+obey g y b = if eqb g 0 then read-king y b else y
 
 -- "Phase p, from 1 to t+1": how many there are
 unfoldable pub phases : ℕ → ℕ

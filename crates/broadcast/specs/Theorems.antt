@@ -11,13 +11,21 @@ use Rattle.line.specs.Count.{count}
 use Rattle.line.specs.Line.{Fits, from-0, rounds, table-length, outcomes-length, place}
 use Rattle.line.specs.Marks.{marked, faults}
 use Rattle.line.specs.Ballot.{blank}
-use Rattle.broadcast.specs.Exchange.{Row, seconds, Setting, y, grade, flag-of}
-use Rattle.broadcast.specs.Broadcast.{from-sender, first-of, second-of, from-king, x-after, z-after, y-after, part, sent}
+use Rattle.broadcast.specs.Exchange.{Row, firsts, seconds, Setting, y, grade, flag-of}
+use Rattle.broadcast.specs.Broadcast.{obey, from-sender, first-of, second-of, from-king, x-after, z-after, y-after, part, sent}
 use Rattle.broadcast.specs.Station.{Setup, running, done, ballot, result, at, after}
 use Rattle.broadcast.specs.Bytes.{exchange-outcomes, Run, setting-of, log, outcomes, setup, column}
 use Rattle.broadcast.specs.Guarantees.{Good, GradedConsensus, TwoThreshold}
 
 -- ---- the graded exchange
+
+-- step 1 (request 2): "a byte other than 0 or 1 now counts for neither value": the count for v, 0 or 1, is the number of bytes that are v
+abbrev pub First-counts : Type 0
+First-counts = (n v : ℕ) (row : Row) → v ≤ 1 → firsts n v row ≡ count n (λ i. eqb (row i) v)
+
+-- zeros, ones and what counts for neither make n
+abbrev pub First-ballots-make-n : Type 0
+First-ballots-make-n = (n : ℕ) (row : Row) → firsts n 0 row + firsts n 1 row + firsts n blank row ≡ n
 
 -- step 4: "blanks count for neither": the count for v, 0 or 1, is the number of bytes that are v
 abbrev pub Blanks-count-for-neither : Type 0
@@ -72,6 +80,18 @@ Exchange-effect =
     → ((r i j : ℕ) → 1 ≤ r → r ≤ 2 → i < n → marked marks i ≡ true → Good n (marked marks) j
     → at table (place n r i j) ≡ at table′ (place n r i j))
     → exchange-outcomes n t T marks inputs table ≡ exchange-outcomes n t T marks inputs′ table′
+
+-- ---- the king's word
+
+-- b is the king's byte: at grade 0 "a station's new x is the king's ballot", but (request 2) "a king's unreadable ballot leaves a grade 0 station with its own
+-- y"; "with grade 1 or 2 it is the station's own y"
+pub record KingsWord (g y b : ℕ) : Type 0 where
+  pub readable : b ≤ 1 → obey 0 y b ≡ b
+  pub unreadable : 1 < b → obey 0 y b ≡ y
+  pub graded : 1 ≤ g → obey g y b ≡ y
+
+abbrev pub Kings-word : Type 0
+Kings-word = (g y b : ℕ) → KingsWord g y b
 
 -- ---- the bytes of a run
 

@@ -25,6 +25,24 @@ bit-or-bound d m b h k = go (leb b 1) refl
     go true e = omega (arith, leb-true b 1 e)
     go false e = h
 
+-- with blank for the default blank is kept too
+bit-or-blank-keeps : (b : ℕ) → b ≤ 2 → bit-or blank b ≡ b
+unfolding bit-or
+bit-or-blank-keeps b h = go (leb b 1) refl
+  where
+    go : (c : Bool) → leb b 1 ≡ c → if c then b else blank ≡ b
+    go true e = refl
+    go false e = omega (arith, leb-false b 1 e)
+
+-- and only the byte v itself is read as v, where v is 0 or 1
+bit-or-blank-because : (b v : ℕ) → v ≤ 1 → bit-or blank b ≡ v → b ≡ v
+unfolding bit-or
+bit-or-blank-because b v h = go (leb b 1)
+  where
+    go : (c : Bool) → if c then b else blank ≡ v → b ≡ v
+    go true e = e
+    go false e = absurd (omega arith)
+
 -- ---- the sender's round, and the king's
 
 pub read-sender-keeps : (b : ℕ) → b ≤ 1 → read-sender b ≡ b
@@ -35,45 +53,40 @@ pub read-sender-bit : (b : ℕ) → read-sender b ≤ 1
 unfolding read-sender
 read-sender-bit b = bit-or-bound 0 1 b (omega arith) (omega arith)
 
-pub read-king-keeps : (b : ℕ) → b ≤ 1 → read-king b ≡ b
+pub read-king-keeps : (y b : ℕ) → b ≤ 1 → read-king y b ≡ b
 unfolding read-king
-read-king-keeps b h = bit-or-low 0 b h
+read-king-keeps y b h = bit-or-low y b h
 
-pub read-king-bit : (b : ℕ) → read-king b ≤ 1
+pub read-king-unreadable : (y b : ℕ) → 1 < b → read-king y b ≡ y
 unfolding read-king
-read-king-bit b = bit-or-bound 0 1 b (omega arith) (omega arith)
+read-king-unreadable y b h = bit-or-high y b h
+
+pub read-king-bit : (y b : ℕ) → y ≤ 1 → read-king y b ≤ 1
+unfolding read-king
+read-king-bit y b h = bit-or-bound y 1 b h (omega arith)
 
 -- ---- the rounds of a graded exchange
 
-pub read-first-keeps : (b : ℕ) → b ≤ 1 → read-first b ≡ b
+pub read-first-bound : (b : ℕ) → read-first b ≤ 2
 unfolding read-first
-read-first-keeps b h = bit-or-low 0 b h
+read-first-bound b = bit-or-bound blank 2 b (omega arith) (omega arith)
 
-pub read-first-default : (b : ℕ) → 1 < b → read-first b ≡ 0
+pub read-first-keeps : (b : ℕ) → b ≤ 2 → read-first b ≡ b
 unfolding read-first
-read-first-default b h = bit-or-high 0 b h
+read-first-keeps = bit-or-blank-keeps
 
-pub read-first-bit : (b : ℕ) → read-first b ≤ 1
+pub read-first-because : (b v : ℕ) → v ≤ 1 → read-first b ≡ v → b ≡ v
 unfolding read-first
-read-first-bit b = bit-or-bound 0 1 b (omega arith) (omega arith)
+read-first-because = bit-or-blank-because
 
 pub read-second-bound : (b : ℕ) → read-second b ≤ 2
 unfolding read-second
 read-second-bound b = bit-or-bound blank 2 b (omega arith) (omega arith)
 
 pub read-second-keeps : (b : ℕ) → b ≤ 2 → read-second b ≡ b
-unfolding read-second bit-or
-read-second-keeps b h = go (leb b 1) refl
-  where
-    go : (c : Bool) → leb b 1 ≡ c → if c then b else blank ≡ b
-    go true e = refl
-    go false e = omega (arith, leb-false b 1 e)
+unfolding read-second
+read-second-keeps = bit-or-blank-keeps
 
--- only the byte v itself is read as v, where v is 0 or 1
 pub read-second-because : (b v : ℕ) → v ≤ 1 → read-second b ≡ v → b ≡ v
-unfolding read-second bit-or
-read-second-because b v h = go (leb b 1)
-  where
-    go : (c : Bool) → if c then b else blank ≡ v → b ≡ v
-    go true e = e
-    go false e = absurd (omega arith)
+unfolding read-second
+read-second-because = bit-or-blank-because

@@ -17,11 +17,11 @@ pub fn read_sender(b: u8) -> u8
     bit_or(0, b)
 }
 
-// In the first round of a graded exchange.
+// In the first round of a graded exchange: what is neither value is blank.
 pub fn read_first(b: u8) -> u8
     ensures { λ r. ⌜ r ≡ read-first b ⌝ }
 {
-    bit_or(0, b)
+    bit_or(Line::BLANK, b)
 }
 
 // In the second round of a graded exchange.
@@ -31,9 +31,9 @@ pub fn read_second(b: u8) -> u8
     bit_or(Line::BLANK, b)
 }
 
-// In the last round of a phase, from the king.
-pub fn read_king(b: u8) -> u8
-    ensures { λ r. ⌜ r ≡ read-king b ⌝ }
+// In the last round of a phase, from the king, at a station with its own y.
+pub fn read_king(y: u8, b: u8) -> u8
+    ensures { λ r. ⌜ r ≡ read-king y b ⌝ }
 {
-    bit_or(0, b)
+    bit_or(y, b)
 }

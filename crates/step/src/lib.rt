@@ -106,9 +106,9 @@ pub fn flag(grade: u8) -> u8
     if grade < 2 { 1 } else { 0 }
 }
 
-// The value after the king's byte: what is read of it at grade 0, otherwise the own y.
+// The value after the king's byte: the byte at grade 0 if it can be read, otherwise the own y.
 pub fn obey(grade: u8, y: u8, b: u8) -> u8
     ensures { λ r. ⌜ r ≡ obey grade y b ⌝ }
 {
-    if grade == 0 { ballot::read_king(b) } else { y }
+    if grade == 0 { ballot::read_king(y, b) } else { y }
 }

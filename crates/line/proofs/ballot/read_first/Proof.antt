@@ -1,4 +1,4 @@
--- `ballot::read_first` meets its contract: its default is 0.
+-- `ballot::read_first` meets its contract: its default is blank.
 use borrow.Author.Needs.{needs}
 use Rattle.line.specs.Ballot.{read-first}
 use Rattle.line.proofs.ballot.read_first.Statement.{statement}

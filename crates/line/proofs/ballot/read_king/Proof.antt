@@ -1,4 +1,4 @@
--- `ballot::read_king` meets its contract: its default is 0.
+-- `ballot::read_king` meets its contract: its default is y.
 use borrow.Author.Needs.{needs}
 use Rattle.line.specs.Ballot.{read-king}
 use Rattle.line.proofs.ballot.read_king.Statement.{statement}
