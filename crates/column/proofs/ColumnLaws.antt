@@ -37,33 +37,33 @@ pub row-of : (n : ℕ) (row : List ℕ) (F : ℕ → ℕ) → Each n row F → (
 unfolding Each each-of
 row-of n row F h = h
 
-module _ (bytes : List ℕ) (start n v : ℕ) where
-  pub counted-none : n ≤ 32 → Each n (replicate 32 0) (counted bytes start n v 0)
+module _ (bytes : List ℕ) (start n : ℕ) (wanted : ℕ → ℕ) where
+  pub counted-none : n ≤ 32 → Each n (replicate 32 0) (counted bytes start n wanted 0)
   unfolding Each counted
   counted-none h j l = getD-replicate 32 j 0 0 (omega arith) ∙ sym (count-zero _)
 
-  pub counted-le : (m j : ℕ) → counted bytes start n v m j ≤ m
+  pub counted-le : (m j : ℕ) → counted bytes start n wanted m j ≤ m
   unfolding counted
   counted-le m j = count-le m _
 
-  pub counted-most : (b m : ℕ) (l : List ℕ) → m ≤ b → Each n l (counted bytes start n v m) → AtMost b n l
+  pub counted-most : (b m : ℕ) (l : List ℕ) → m ≤ b → Each n l (counted bytes start n wanted m) → AtMost b n l
   unfolding Each AtMost
   counted-most b m l h each j k = omega (arith, each j k, counted-le m j)
 
   -- one sender more
-  counted-more : (m j : ℕ) → counted bytes start n v m j + hit (byte-to bytes (start + m * n) j) v ≡ counted bytes start n v (m + 1) j
+  counted-more : (m j : ℕ) → counted bytes start n wanted m j + hit (byte-to bytes (start + m * n) j) (wanted j) ≡ counted bytes start n wanted (m + 1) j
   unfolding counted hit byte-to column
-  counted-more m j = go (eqb (getD bytes (start + m * n + j) 0) v) refl
+  counted-more m j = go (eqb (getD bytes (start + m * n + j) 0) (wanted j)) refl
     where
       p : ℕ → Bool
-      p i = eqb (getD bytes (start + i * n + j) 0) v
+      p i = eqb (getD bytes (start + i * n + j) 0) (wanted j)
 
-      go : (c : Bool) → eqb (getD bytes (start + m * n + j) 0) v ≡ c → count m p + (if c then 1 else 0) ≡ count (m + 1) p
+      go : (c : Bool) → eqb (getD bytes (start + m * n + j) 0) (wanted j) ≡ c → count m p + (if c then 1 else 0) ≡ count (m + 1) p
       go true e = sym (count-hit m p e)
       go false e = omega (arith, count-miss m p e)
 
-  pub counted-turn : (m : ℕ) (l l′ : List ℕ) (row : ℕ → ℕ) → Each n l (counted bytes start n v m)
-      → ((j : ℕ) → j < n → row j ≡ byte-to bytes (start + m * n) j) → Each n l′ (more l row v) → Each n l′ (counted bytes start n v (m + 1))
+  pub counted-turn : (m : ℕ) (l l′ : List ℕ) (row : ℕ → ℕ) → Each n l (counted bytes start n wanted m)
+      → ((j : ℕ) → j < n → row j ≡ byte-to bytes (start + m * n) j) → Each n l′ (more l row wanted) → Each n l′ (counted bytes start n wanted (m + 1))
   unfolding Each more
   counted-turn m l l′ row before is now j k = now j k ∙ rw (before j k, is j k) (counted-more m j)
 
@@ -72,9 +72,9 @@ pub most-none : AtMost 0 32 (replicate 32 0)
 unfolding AtMost
 most-none j h = omega (arith, getD-replicate {A = ℕ} 32 j 0 0 h)
 
-pub most-turn : (m v : ℕ) (l l′ : List ℕ) (row : ℕ → ℕ) → AtMost m 32 l → Each 32 l′ (more l row v) → AtMost (m + 1) 32 l′
+pub most-turn : (m : ℕ) (l l′ : List ℕ) (row wanted : ℕ → ℕ) → AtMost m 32 l → Each 32 l′ (more l row wanted) → AtMost (m + 1) 32 l′
 unfolding AtMost Each more
-most-turn m v l l′ row most now j h = omega (arith, most j h, now j h, hit-le (row j) v)
+most-turn m l l′ row wanted most now j h = omega (arith, most j h, now j h, hit-le (row j) (wanted j))
 
 pub most-weak : (a b m : ℕ) (l : List ℕ) → a ≤ b → AtMost a m l → AtMost b m l
 unfolding AtMost
@@ -82,10 +82,10 @@ most-weak a b m l h most j k = omega (arith, most j k)
 
 -- ---- with and without room
 
-pub count-there : (n : ℕ) (bytes : List ℕ) (start v : ℕ) → has-round n start (length bytes) ≡ true
-    → (j : ℕ) → count-of n bytes start v j ≡ counted bytes start n v n j
+pub count-there : (n : ℕ) (bytes : List ℕ) (start : ℕ) (wanted : ℕ → ℕ) → has-round n start (length bytes) ≡ true
+    → (j : ℕ) → count-of n bytes start wanted j ≡ counted bytes start n wanted n j
 unfolding count-of
-count-there n bytes start v h j = if-true _ _ h
+count-there n bytes start wanted h j = if-true _ _ h
 
 -- an array of zeros is 0 everywhere, and past its end
 zeros : (m j : ℕ) → getD {A = ℕ} (replicate m 0) j 0 ≡ 0
@@ -94,10 +94,10 @@ zeros zero (suc j) = refl
 zeros (suc m) zero = refl
 zeros (suc m) (suc j) = zeros m j
 
-pub count-not : (n : ℕ) (bytes : List ℕ) (start v : ℕ) → has-round n start (length bytes) ≡ false
-    → Each n (replicate 32 0) (count-of n bytes start v)
+pub count-not : (n : ℕ) (bytes : List ℕ) (start : ℕ) (wanted : ℕ → ℕ) → has-round n start (length bytes) ≡ false
+    → Each n (replicate 32 0) (count-of n bytes start wanted)
 unfolding count-of Each
-count-not n bytes start v h j k = rw h (zeros 32 j)
+count-not n bytes start wanted h j k = rw h (zeros 32 j)
 
 module _ (n : ℕ) (bytes : List ℕ) (start i : ℕ) where
   pub sent-there : i < n → has-round n start (length bytes) ≡ true → (j : ℕ) → sent-by n bytes start i j ≡ column bytes start n j i

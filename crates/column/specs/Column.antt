@@ -1,4 +1,4 @@
--- A round's bytes to one receiver, and how many of them are v. Stations are counted from 0. Bytes are laid out like a run table.
+-- A round's bytes to one receiver, and how many of them are what is wanted of it. Stations are counted from 0. Bytes are laid out like a run table.
 use Prim.Native.Nat.{ℕ, _+_, _*_, _≤_, _<_}
 use mathlib.Core.Path.{_≡_}
 use mathlib.Core.List.{List}
@@ -12,13 +12,17 @@ use Rattle.line.specs.Line.{has-round}
 unfoldable pub column : List ℕ → ℕ → ℕ → ℕ → ℕ → ℕ
 column bytes start n j i = getD bytes (start + i * n + j) 0
 
--- how many of the bytes from the first m stations to j are v
-unfoldable pub counted : List ℕ → ℕ → ℕ → ℕ → ℕ → ℕ → ℕ
-counted bytes start n v m j = count m (λ i. eqb (column bytes start n j i) v)
+-- an array's byte at each place
+unfoldable pub each-of : List ℕ → ℕ → ℕ
+each-of l j = getD l j 0
+
+-- how many of the bytes from the first m stations to j are the one wanted of j
+unfoldable pub counted : List ℕ → ℕ → ℕ → (ℕ → ℕ) → ℕ → ℕ → ℕ
+counted bytes start n wanted m j = count m (λ i. eqb (column bytes start n j i) (wanted j))
 
 -- from all n stations, 0 where the bytes have no such round
-unfoldable pub count-of : ℕ → List ℕ → ℕ → ℕ → ℕ → ℕ
-count-of n bytes start v j = if has-round n start (length bytes) then counted bytes start n v n j else 0
+unfoldable pub count-of : ℕ → List ℕ → ℕ → (ℕ → ℕ) → ℕ → ℕ
+count-of n bytes start wanted j = if has-round n start (length bytes) then counted bytes start n wanted n j else 0
 
 -- the byte from station i to j, 0 where the bytes have no such round or the line no such station
 unfoldable pub sent-by : ℕ → List ℕ → ℕ → ℕ → ℕ → ℕ
@@ -33,12 +37,9 @@ byte-to bytes a j = getD bytes (a + j) 0
 unfoldable pub hit : ℕ → ℕ → ℕ
 hit b v = if eqb b v then 1 else 0
 
-unfoldable pub each-of : List ℕ → ℕ → ℕ
-each-of l j = getD l j 0
-
--- one more at each place where the row's byte is v
-unfoldable pub more : List ℕ → (ℕ → ℕ) → ℕ → ℕ → ℕ
-more counts row v j = getD counts j 0 + hit (row j) v
+-- one more at each place where the row's byte is the one wanted there
+unfoldable pub more : List ℕ → (ℕ → ℕ) → (ℕ → ℕ) → ℕ → ℕ
+more counts row wanted j = getD counts j 0 + hit (row j) (wanted j)
 
 -- the first m bytes of l are at most b
 unfoldable pub AtMost : ℕ → ℕ → List ℕ → Type 0

@@ -1,17 +1,21 @@
 -- Laws of one round: the counts of a receiver's column are its row's tallies, and the steps from counts those from the row. Assumes nothing.
-use Prim.Native.Nat.{ℕ, zero, suc, _+_, _*_, _≤_, _<_}
+use Prim.Native.Nat.{ℕ, zero, suc, _+_, _-_, _*_, _≤_, _<_}
 use mathlib.Core.Path.{_≡_, refl, sym, ap, _∙_}
 use mathlib.Core.Bool.{Bool, true, false, _&&_, true≢false}
+use mathlib.Core.Logic.{⊎-elim}
 use mathlib.Core.List.{List}
 use native.Mathlib.Omega.{arith}
-use borrow.Author.Tests.{ltb-true, ne-eqb}
-use lib.ListN.{length, getD}
-use Rattle.line.specs.Count.{if_then_else_}
+use lib.Dec.{eqb}
+use borrow.Author.Tests.{ltb-true, lt-leb}
+use lib.ListN.{length, getD, replicate, getD-replicate}
+use Rattle.line.specs.Count.{if_then_else_, count}
+use Rattle.line.specs.Ballot.{blank}
+use Rattle.line.proofs.CountLaws.{le-or-lt}
 use Rattle.line.specs.Line.{has-round}
 use Rattle.line.proofs.WritingLaws.{each-fewer}
 use Rattle.broadcast.specs.Exchange.{Row, firsts, seconds, z-from, z-of, y-from, y-of, for-y, grade-of}
-use Rattle.broadcast.proofs.TallyLaws.{ones-are-bytes, zeros-and-ones, firsts-else, blanks-for-neither, for-y-is}
-use Rattle.column.specs.Column.{column, counted, count-of}
+use Rattle.broadcast.proofs.TallyLaws.{first-bytes, firsts-else, blanks-for-neither, z-from-means, for-y-is}
+use Rattle.column.specs.Column.{column, each-of, counted, count-of}
 use Rattle.column.proofs.ColumnLaws.{count-there}
 use Rattle.line.specs.Writing.{Each}
 use Rattle.broadcast.specs.Bytes.{tabulate}
@@ -24,7 +28,7 @@ use Rattle.step.specs.declared.Part.{Part}
 use Rattle.post.specs.Posted.{posted}
 use Rattle.line.specs.Marks.{marked}
 use Rattle.post.proofs.PostLaws.{posted-as, posted-at, posted-before, posted-length}
-use Rattle.stations.specs.Counts.{equal-to}
+use Rattle.stations.specs.Counts.{votes-for}
 use Rattle.round.specs.declared.Stations.{Stations}
 use Rattle.round.specs.Round.{said-by, Taken, speaker-within, playable, Plays}
 
@@ -32,41 +36,56 @@ use Rattle.round.specs.Round.{said-by, Taken, speaker-within, playable, 
 pub all-of : (n : ℕ) (l : List ℕ) (F : ℕ → ℕ) → n ≤ 32 → Each 32 l F → Each n l F
 all-of n l F h each = each-fewer 32 n l F h each
 
+-- the same byte wanted of all
+pub wanted-is : (n v j : ℕ) → n ≤ 32 → j < n → each-of (replicate 32 v) j ≡ v
+unfolding each-of
+wanted-is n v j most h = getD-replicate 32 j v 0 (omega arith)
+
 -- ---- from counts
 
--- what is not a one is a zero
-equal-is : (n x : ℕ) (row : Row) → equal-to n x (firsts n 1 row) ≡ firsts n x row
-unfolding equal-to
-equal-is n zero row = omega (arith, zeros-and-ones n row)
-equal-is n (suc zero) row = refl
-equal-is n (suc (suc x)) row =
-    rw (ne-eqb (suc (suc x)) 1 (omega arith), ne-eqb (suc (suc x)) 0 (omega arith)) (sym (firsts-else n (suc (suc x)) row (omega arith)))
+-- whatever counts for blank, z is blank
+z-from-blank : (n T c c′ : ℕ) → z-from n T blank c ≡ z-from n T blank c′
+z-from-blank n T c c′ = is c ∙ sym (is c′)
+  where
+    is : (c : ℕ) → z-from n T blank c ≡ blank
+    is c = ⊎-elim (z-from-means n T blank c .0) (z-from-means n T blank c .1) (le-or-lt (n - T) c)
+
+-- the bytes that are x are the ballots that count for it: x is a value, or blank, or anything else
+z-from-bytes : (n T x : ℕ) (row : Row) → z-from n T x (votes-for x (count n (λ i. eqb (row i) x))) ≡ z-of n T x row
+unfolding votes-for z-of
+z-from-bytes n T zero row = rw (first-bytes n 0 row (omega arith))
+z-from-bytes n T (suc zero) row = rw (first-bytes n 1 row (omega arith))
+z-from-bytes n T (suc (suc zero)) row = z-from-blank n T _ _
+z-from-bytes n T (suc (suc (suc x))) row = rw (lt-leb (suc (suc (suc x))) 1 (omega arith), firsts-else n (suc (suc (suc x))) row (omega arith))
 
 module _ (n start : ℕ) (log : List ℕ) (room : has-round n start (length log) ≡ true) (j : ℕ) where
-  ones-are : count-of n log start 1 j ≡ firsts n 1 (column log start n j)
+  bytes-are : (wanted : ℕ → ℕ) → count-of n log start wanted j ≡ count n (λ i. eqb (column log start n j i) (wanted j))
   unfolding counted
-  ones-are = count-there n log start 1 room j ∙ sym (ones-are-bytes n (column log start n j))
-
-  seconds-are : (v : ℕ) → v ≤ 1 → count-of n log start v j ≡ seconds n v (column log start n j)
-  unfolding counted
-  seconds-are v h = count-there n log start v room j ∙ sym (blanks-for-neither n v (column log start n j) h)
+  bytes-are wanted = count-there n log start wanted room j
 
   -- step 2
-  pub z-made : (T x ones : ℕ) → ones ≡ count-of n log start 1 j → z-from n T x (equal-to n x ones) ≡ z-of n T x (column log start n j)
-  unfolding z-of
-  z-made T x ones e = rw (e, ones-are) (ap (z-from n T x) (equal-is n x (column log start n j)))
+  pub z-made : (T equal : ℕ) (x : ℕ → ℕ) → equal ≡ count-of n log start x j
+      → z-from n T (x j) (votes-for (x j) equal) ≡ z-of n T (x j) (column log start n j)
+  z-made T equal x e = rw (e, bytes-are x) (z-from-bytes n T (x j) (column log start n j))
 
-  module _ (zeros ones : ℕ) (a : zeros ≡ count-of n log start 0 j) (b : ones ≡ count-of n log start 1 j) where
+  module _ (zeros ones : ℕ) (zero-wanted one-wanted : ℕ → ℕ) (is-0 : zero-wanted j ≡ 0) (is-1 : one-wanted j ≡ 1)
+      (a : zeros ≡ count-of n log start zero-wanted j) (b : ones ≡ count-of n log start one-wanted j) where
+    zeros-are : zeros ≡ seconds n 0 (column log start n j)
+    zeros-are = a ∙ bytes-are zero-wanted ∙ rw is-0 (sym (blanks-for-neither n 0 (column log start n j) (omega arith)))
+
+    ones-are : ones ≡ seconds n 1 (column log start n j)
+    ones-are = b ∙ bytes-are one-wanted ∙ rw is-1 (sym (blanks-for-neither n 1 (column log start n j) (omega arith)))
+
     -- step 4
     pub y-made : y-from zeros ones ≡ y-of n (column log start n j)
     unfolding y-of
-    y-made = rw (a, b, seconds-are 0 (omega arith), seconds-are 1 (omega arith))
+    y-made = rw (zeros-are, ones-are)
 
     -- step 5
     pub grade-made : (t T : ℕ)
         → grade-of n t T (for-y zeros ones) ≡ grade-of n t T (seconds n (y-of n (column log start n j)) (column log start n j))
     grade-made t T =
-        rw (a, b, seconds-are 0 (omega arith), seconds-are 1 (omega arith)) (ap (grade-of n t T) (for-y-is n (column log start n j)))
+        rw (zeros-are, ones-are) (ap (grade-of n t T) (for-y-is n (column log start n j)))
 
 -- ---- a station looks at no more of a row than its n bytes
 

@@ -30,13 +30,15 @@ fn take_all(line: Line, sender: u8, part: Part, s: Stations, log: &[u8], start: 
             Stations { value, z, grade }
         }
         Part::First => {
-            let ones = column::count(line, log, start, 1);
-            let z = stations::choose(line, value, ones);
+            let equal = column::count(line, log, start, &value);
+            let z = stations::choose(line, value, equal);
             Stations { value, z, grade }
         }
         Part::Second => {
-            let zeros = column::count(line, log, start, 0);
-            let ones = column::count(line, log, start, 1);
+            let zero = [0u8; 32];
+            let one = [1u8; 32];
+            let zeros = column::count(line, log, start, &zero);
+            let ones = column::count(line, log, start, &one);
             let value = stations::decide(zeros, ones);
             let grade = stations::grade(line, zeros, ones);
             Stations { value, z, grade }

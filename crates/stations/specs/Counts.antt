@@ -1,8 +1,8 @@
--- The counts of a first round, from its ones.
-use Prim.Native.Nat.{ℕ, _-_}
-use lib.Dec.{eqb}
+-- The count of a first round, from its bytes.
+use Prim.Native.Nat.{ℕ}
+use lib.Dec.{leb}
 use Rattle.line.specs.Count.{if_then_else_}
 
--- how many ballots of a first round are read as x, where so many are ones: "A received byte other than 0 or 1 is read as 0"
-unfoldable pub equal-to : ℕ → ℕ → ℕ → ℕ
-equal-to n x ones = if eqb x 1 then ones else (if eqb x 0 then n - ones else 0)
+-- how many ballots of a first round count for x, where so many bytes are x: "a byte other than 0 or 1 now counts for neither value" (request 2)
+unfoldable pub votes-for : ℕ → ℕ → ℕ
+votes-for x equal = if leb x 1 then equal else 0

@@ -8,7 +8,7 @@ ghost use Rattle.broadcast.specs.Exchange.{z-from, y-from, for-y, grade-of};
 ghost use Rattle.broadcast.specs.Broadcast.{obey};
 ghost use Rattle.broadcast.specs.Station.{told};
 ghost use Rattle.step.specs.Part.{of-part};
-ghost use Rattle.stations.specs.Counts.{equal-to};
+ghost use Rattle.stations.specs.Counts.{votes-for};
 use line::Line;
 use line::ballot;
 use step::Part;
@@ -41,25 +41,22 @@ pub fn hear(heard: [u8; 32]) -> [u8; 32]
     next
 }
 
-// How many ballots of a first round are read as x, where so many are ones: every other is a zero.
-fn equal_to(n: u8, x: u8, ones: u8) -> u8
-    ensures { λ r. ⌜ r ≡ equal-to n x ones ⌝ }
+// How many ballots of a first round count for x, where so many bytes are x: none, if x is no value.
+fn votes_for(x: u8, equal: u8) -> u8
+    ensures { λ r. ⌜ r ≡ votes-for x equal ⌝ }
 {
-    if x == 1 {
-        return ones;
-    }
-    if x == 0 { step::less(n, ones) } else { 0 }
+    if x <= 1 { equal } else { 0 }
 }
 
-// The first round of an exchange: each station's z.
-pub fn choose(line: Line, x: [u8; 32], ones: [u8; 32]) -> [u8; 32]
-    ensures { λ r. ⌜ Each 32 r (λ j. z-from (line .n) (line .upper) (getD x j 0) (equal-to (line .n) (getD x j 0) (getD ones j 0))) ⌝ }
+// The first round of an exchange: each station's z, from how many bytes are its x.
+pub fn choose(line: Line, x: [u8; 32], equal: [u8; 32]) -> [u8; 32]
+    ensures { λ r. ⌜ Each 32 r (λ j. z-from (line .n) (line .upper) (getD x j 0) (votes-for (getD x j 0) (getD equal j 0))) ⌝ }
 {
     let mut next = [0u8; 32];
     let mut j: u8 = 0;
     while j < 32 {
         let k = j as usize;
-        let count = equal_to(line.n, x[k], ones[k]);
+        let count = votes_for(x[k], equal[k]);
         next[k] = step::z(line.n, line.upper, x[k], count);
         j += 1;
     }

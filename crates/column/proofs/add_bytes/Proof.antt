@@ -6,16 +6,16 @@ use mathlib.Core.Path.{_≡_}
 use lib.ListN.{length, getD, length-set}
 use Rattle.line.specs.Writing.{Each}
 use Rattle.line.proofs.WritingLaws.{each-none, each-turn}
-use Rattle.column.specs.Column.{AtMost, Rest, byte-to, more}
+use Rattle.column.specs.Column.{each-of, AtMost, Rest, byte-to, more}
 use Rattle.column.proofs.ColumnLaws.{rest-all, rest-turn, hit-le}
 use Rattle.column.proofs.add_bytes.Statement.{statement}
 use Rattle.column.proofs.add_bytes.Tie as tie
 
 abbrev Inv-loop : tie.InvT-loop
-Inv-loop counts₀ bytes at n v j₀ counts j = (j ≤ n) × (length counts ≡ 32) × Each j counts (more counts₀ (byte-to bytes at) v) × Rest j counts counts₀
+Inv-loop counts₀ bytes at n wanted j₀ counts j = (j ≤ n) × (length counts ≡ 32) × Each j counts (more counts₀ (byte-to bytes at) (each-of wanted)) × Rest j counts counts₀
 
 abbrev μ-loop : tie.MeasureT-loop
-μ-loop counts₀ bytes at n v j₀ counts j = n - j
+μ-loop counts₀ bytes at n wanted j₀ counts j = n - j
 
 loop-holds : tie.Need-loop-holds Inv-loop μ-loop
 loop-holds c = (omega arith, c .before .pre .3, each-none _ _, rest-all _)
@@ -26,6 +26,9 @@ add-hit c = search needs
 shared-slice-read-hit : tie.Need-shared-slice-read-hit Inv-loop μ-loop
 shared-slice-read-hit c = search needs
 
+element-copy-out-hit : tie.Need-element-copy-out-hit Inv-loop μ-loop
+element-copy-out-hit c = search needs
+
 hit-requires : tie.Need-hit-requires Inv-loop μ-loop
 hit-requires c κs = search needs
 
@@ -35,9 +38,9 @@ element-copy-out-counts c = search needs
 add-counts : tie.Need-add-counts Inv-loop μ-loop
 unfolding AtMost Rest
 add-counts c =
-    let a = c .before .before .before .before in
+    let a = c .before .before .before .before .before in
     let s = a .before .before in
-    omega (arith, a .loop .inv .3 (a .loop .j) (omega arith), s .pre .2 (a .loop .j) (omega arith), c .before .hit .ensures, hit-le (getD (s .args .bytes .now) (s .args .at + a .loop .j) 0) (s .args .v))
+    omega (arith, a .loop .inv .3 (a .loop .j) (omega arith), s .pre .2 (a .loop .j) (omega arith), c .before .hit .ensures, hit-le (getD (s .args .bytes .now) (s .args .at + a .loop .j) 0) (getD (s .args .wanted .now) (a .loop .j) 0))
 
 element-write-counts : tie.Need-element-write-counts Inv-loop μ-loop
 element-write-counts c = search needs
@@ -49,9 +52,9 @@ loop-less : tie.Need-loop-less Inv-loop μ-loop
 loop-less c = search needs
 
 loop-again : tie.Need-loop-again Inv-loop μ-loop
-unfolding Rest more byte-to
+unfolding Rest more byte-to each-of
 loop-again c =
-    let a = c .before .before .before .before in
+    let a = c .before .before .before .before .before in
     let s = a .before .before in
     (omega arith, simp length-set (a .loop .inv .1), each-turn (a .loop .counts) _ (a .loop .j) _ (omega (arith, a .loop .inv .1, s .pre .0)) (a .loop .inv .2) (omega (arith, a .loop .inv .3 (a .loop .j) (omega arith), c .before .hit .ensures)), rest-turn (a .loop .counts) (s .args .counts .now) (a .loop .j) _ (a .loop .inv .3))
 
@@ -70,6 +73,7 @@ add-bytes-spec =
     loop-holds
     add-hit
     shared-slice-read-hit
+    element-copy-out-hit
     hit-requires
     element-copy-out-counts
     add-counts

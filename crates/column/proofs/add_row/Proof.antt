@@ -13,16 +13,19 @@ use Rattle.column.proofs.add_row.Statement.{statement}
 use Rattle.column.proofs.add_row.Tie as tie
 
 abbrev Inv-loop : tie.InvT-loop
-Inv-loop counts₀ row v j₀ counts j = (j ≤ 32) × (length counts ≡ 32) × Each j counts (more counts₀ (each-of row) v) × Rest j counts counts₀
+Inv-loop counts₀ row wanted j₀ counts j = (j ≤ 32) × (length counts ≡ 32) × Each j counts (more counts₀ (each-of row) (each-of wanted)) × Rest j counts counts₀
 
 abbrev μ-loop : tie.MeasureT-loop
-μ-loop counts₀ row v j₀ counts j = 32 - j
+μ-loop counts₀ row wanted j₀ counts j = 32 - j
 
 loop-holds : tie.Need-loop-holds Inv-loop μ-loop
 loop-holds c = (omega arith, c .pre .1, each-none _ _, rest-all _)
 
 element-copy-out-hit : tie.Need-element-copy-out-hit Inv-loop μ-loop
 element-copy-out-hit c = search needs
+
+element-copy-out-hit-2 : tie.Need-element-copy-out-hit-2 Inv-loop μ-loop
+element-copy-out-hit-2 c = search needs
 
 hit-requires : tie.Need-hit-requires Inv-loop μ-loop
 hit-requires c κs = search needs
@@ -33,9 +36,9 @@ element-copy-out-counts c = search needs
 add-counts : tie.Need-add-counts Inv-loop μ-loop
 unfolding AtMost Rest
 add-counts c =
-    let a = c .before .before .before .before in
+    let a = c .before .before .before .before .before in
     let s = a .before in
-    omega (arith, a .loop .inv .3 (a .loop .j) (omega arith), s .pre .0 (a .loop .j) (omega arith), c .before .hit .ensures, hit-le (getD (s .args .row .now) (a .loop .j) 0) (s .args .v))
+    omega (arith, a .loop .inv .3 (a .loop .j) (omega arith), s .pre .0 (a .loop .j) (omega arith), c .before .hit .ensures, hit-le (getD (s .args .row .now) (a .loop .j) 0) (getD (s .args .wanted .now) (a .loop .j) 0))
 
 element-write-counts : tie.Need-element-write-counts Inv-loop μ-loop
 element-write-counts c = search needs
@@ -49,7 +52,7 @@ loop-less c = search needs
 loop-again : tie.Need-loop-again Inv-loop μ-loop
 unfolding Rest more each-of
 loop-again c =
-    let a = c .before .before .before .before in
+    let a = c .before .before .before .before .before in
     let s = a .before in
     (omega arith, simp length-set (a .loop .inv .1), each-turn (a .loop .counts) _ (a .loop .j) _ (omega (arith, a .loop .inv .1)) (a .loop .inv .2) (omega (arith, a .loop .inv .3 (a .loop .j) (omega arith), c .before .hit .ensures)), rest-turn (a .loop .counts) (s .args .counts .now) (a .loop .j) _ (a .loop .inv .3))
 
@@ -67,6 +70,7 @@ add-row-spec =
     μ-loop
     loop-holds
     element-copy-out-hit
+    element-copy-out-hit-2
     hit-requires
     element-copy-out-counts
     add-counts

@@ -4,6 +4,7 @@ use mathlib.Core.Path.{sym, _∙_}
 use lib.ListN.{length}
 use Rattle.line.specs.Writing.{Each}
 use Rattle.line.proofs.LineLaws.{round-means}
+use Rattle.column.specs.Column.{each-of}
 use Rattle.column.proofs.ColumnLaws.{count-there, count-not}
 use Rattle.column.proofs.count.Statement.{statement}
 use Rattle.column.proofs.count.Tie as tie
@@ -24,12 +25,12 @@ unfolding Each
 returns c =
     let g = c .before .before .before .before .before .args in
     λ j h. c .count-all .ensures j h
-    ∙ sym (count-there (g .line .n) (g .bytes .now) (g .start) (g .v) (sym (c .before .before .before .has-round .ensures) ∙ c .before .before .if1 .taken) j)
+    ∙ sym (count-there (g .line .n) (g .bytes .now) (g .start) (each-of (g .wanted .now)) (sym (c .before .before .before .has-round .ensures) ∙ c .before .before .if1 .taken) j)
 
 returns-2 : tie.Need-returns-2
 returns-2 c =
     let g = c .before .before .before .args in
-    count-not (g .line .n) (g .bytes .now) (g .start) (g .v) (sym (c .before .has-round .ensures) ∙ c .if1 .left)
+    count-not (g .line .n) (g .bytes .now) (g .start) (each-of (g .wanted .now)) (sym (c .before .has-round .ensures) ∙ c .if1 .left)
 
 pub count-spec : {M : Type 1} → statement M
 count-spec =

@@ -7,16 +7,16 @@ use native.Mathlib.Nat.{zero-mul}
 use lib.ListN.{length}
 use Rattle.line.specs.Writing.{Each}
 use Rattle.line.proofs.LineLaws.{next-row, row-within}
-use Rattle.column.specs.Column.{byte-to, counted}
+use Rattle.column.specs.Column.{each-of, byte-to, counted}
 use Rattle.column.proofs.ColumnLaws.{counted-none, counted-most, counted-turn}
 use Rattle.column.proofs.count_narrow.Statement.{statement}
 use Rattle.column.proofs.count_narrow.Tie as tie
 
 abbrev Inv-loop : tie.InvT-loop
-Inv-loop bytes start n v counts₀ i₀ at₀ counts i at = (i ≤ n) × (at ≡ start + i * n) × (length counts ≡ 32) × Each n counts (counted bytes start n v i)
+Inv-loop bytes start n wanted counts₀ i₀ at₀ counts i at = (i ≤ n) × (at ≡ start + i * n) × (length counts ≡ 32) × Each n counts (counted bytes start n (each-of wanted) i)
 
 abbrev μ-loop : tie.MeasureT-loop
-μ-loop bytes start n v counts₀ i₀ at₀ counts i at = n - i
+μ-loop bytes start n wanted counts₀ i₀ at₀ counts i at = n - i
 
 loop-holds : tie.Need-loop-holds Inv-loop μ-loop
 loop-holds c =
@@ -29,7 +29,7 @@ add-bytes-requires c κs =
     let s = a .before .before in
     let g = s .args in
     let w = row-within (a .loop .i) (g .n) (g .n) (omega arith) in
-    (s .pre .0, omega (arith, s .pre .1, a .loop .inv .1), counted-most (g .bytes .now) (g .start) (g .n) (g .v) 254 (a .loop .i) (a .loop .counts) (omega (arith, s .pre .0)) (a .loop .inv .3), a .loop .inv .2)
+    (s .pre .0, omega (arith, s .pre .1, a .loop .inv .1), counted-most (g .bytes .now) (g .start) (g .n) (each-of (g .wanted .now)) 254 (a .loop .i) (a .loop .counts) (omega (arith, s .pre .0)) (a .loop .inv .3), a .loop .inv .2)
 
 add-at : tie.Need-add-at Inv-loop μ-loop
 add-at c =
@@ -50,7 +50,7 @@ loop-again c =
     let s = a .before .before in
     let g = s .args in
     let added = rw (a .loop .inv .1) at (c .add-bytes .ensures .1) in
-    (omega arith, omega (arith, next-row (a .loop .i) (g .n), a .loop .inv .1), c .add-bytes .ensures .0, counted-turn (g .bytes .now) (g .start) (g .n) (g .v) (a .loop .i) (a .loop .counts) _ (byte-to (g .bytes .now) (g .start + a .loop .i * g .n)) (a .loop .inv .3) (λ j h. refl) added)
+    (omega arith, omega (arith, next-row (a .loop .i) (g .n), a .loop .inv .1), c .add-bytes .ensures .0, counted-turn (g .bytes .now) (g .start) (g .n) (each-of (g .wanted .now)) (a .loop .i) (a .loop .counts) _ (byte-to (g .bytes .now) (g .start + a .loop .i * g .n)) (a .loop .inv .3) (λ j h. refl) added)
 
 returns : tie.Need-returns Inv-loop μ-loop
 returns c =

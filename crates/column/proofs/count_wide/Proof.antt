@@ -14,10 +14,10 @@ use Rattle.column.proofs.count_wide.Statement.{statement}
 use Rattle.column.proofs.count_wide.Tie as tie
 
 abbrev Inv-loop : tie.InvT-loop
-Inv-loop bytes start n v counts₀ i₀ at₀ counts i at = (i ≤ n) × (at ≡ start + i * n) × (length counts ≡ 32) × AtMost i 32 counts × Each n counts (counted bytes start n v i)
+Inv-loop bytes start n wanted counts₀ i₀ at₀ counts i at = (i ≤ n) × (at ≡ start + i * n) × (length counts ≡ 32) × AtMost i 32 counts × Each n counts (counted bytes start n (each-of wanted) i)
 
 abbrev μ-loop : tie.MeasureT-loop
-μ-loop bytes start n v counts₀ i₀ at₀ counts i at = n - i
+μ-loop bytes start n wanted counts₀ i₀ at₀ counts i at = n - i
 
 loop-holds : tie.Need-loop-holds Inv-loop μ-loop
 loop-holds c =
@@ -55,10 +55,11 @@ loop-again c =
     let a = c .before .before .before .before .before in
     let s = a .before .before in
     let g = s .args in
+    let wanted = each-of (g .wanted .now) in
     let row = each-of (c .before .before .before .heard .result) in
     let added = c .add-row .ensures .1 in
     let heard = each-fewer 32 (g .n) _ (byte-to (g .bytes .now) (g .start + a .loop .i * g .n)) (s .pre .0) (rw (a .loop .inv .1) at (c .before .before .before .heard .ensures)) in
-    (omega arith, omega (arith, next-row (a .loop .i) (g .n), a .loop .inv .1), c .add-row .ensures .0, most-turn (a .loop .i) (g .v) (a .loop .counts) _ row (a .loop .inv .3) added, counted-turn (g .bytes .now) (g .start) (g .n) (g .v) (a .loop .i) (a .loop .counts) _ row (a .loop .inv .4) (row-of _ _ _ heard) (each-fewer 32 (g .n) _ (more (a .loop .counts) row (g .v)) (s .pre .0) added))
+    (omega arith, omega (arith, next-row (a .loop .i) (g .n), a .loop .inv .1), c .add-row .ensures .0, most-turn (a .loop .i) (a .loop .counts) _ row wanted (a .loop .inv .3) added, counted-turn (g .bytes .now) (g .start) (g .n) wanted (a .loop .i) (a .loop .counts) _ row (a .loop .inv .4) (row-of _ _ _ heard) (each-fewer 32 (g .n) _ (more (a .loop .counts) row wanted) (s .pre .0) added))
 
 returns : tie.Need-returns Inv-loop μ-loop
 returns c =

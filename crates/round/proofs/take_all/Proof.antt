@@ -8,10 +8,11 @@ use Rattle.line.specs.Writing.{Each}
 use Rattle.line.proofs.LineLaws.{round-means}
 use Rattle.broadcast.specs.Exchange.{z-from, y-from, for-y, grade-of}
 use Rattle.broadcast.specs.Station.{next, taken}
-use Rattle.stations.specs.Counts.{equal-to}
+use Rattle.stations.specs.Counts.{votes-for}
+use Rattle.column.specs.Column.{each-of}
 use Rattle.column.proofs.ColumnLaws.{sent-there}
 use Rattle.round.specs.Round.{Taken}
-use Rattle.round.proofs.RoundLaws.{all-of, z-made, y-made, grade-made}
+use Rattle.round.proofs.RoundLaws.{all-of, wanted-is, z-made, y-made, grade-made}
 use Rattle.round.proofs.take_all.Statement.{statement}
 use Rattle.round.proofs.take_all.Tie as tie
 
@@ -67,25 +68,25 @@ returns c =
     λ r j h. rw (c .before .before .enum-told .given .1, all-of (g .line .n) _ _ most (c .hear .ensures) j h, c .before .sent-by .ensures j h, sent-there (g .line .n) (g .log .now) (g .start) (g .sender) here (s .pre .0) j)
 
 returns-2 : tie.Need-returns-2
-unfolding Taken Each taken next
+unfolding Taken Each taken next each-of
 returns-2 c =
-    let s = c .before .before .before .before .before .before .before .before in
+    let s = c .before .before .before .before .before .before .before .before .before in
     let g = s .args in
     let most = round-means (g .line .n) (g .start) (length (g .log .now)) (s .pre .0) .0 in
-    let z = all-of (g .line .n) (c .choose .result) (λ j. z-from (g .line .n) (g .line .upper) (getD (g .s .value) j 0) (equal-to (g .line .n) (getD (g .s .value) j 0) (getD (c .before .count .result) j 0))) most (c .choose .ensures) in
-    λ r j h. rw (c .before .before .enum-told2 .given .1, z j h, z-made (g .line .n) (g .start) (g .log .now) (s .pre .0) j (g .line .upper) _ _ (c .before .count .ensures j h))
+    let z = all-of (g .line .n) (c .choose .result) (λ j. z-from (g .line .n) (g .line .upper) (getD (g .s .value) j 0) (votes-for (getD (g .s .value) j 0) (getD (c .before .count .result) j 0))) most (c .choose .ensures) in
+    λ r j h. rw (c .before .before .before .enum-told2 .given .1, z j h, z-made (g .line .n) (g .start) (g .log .now) (s .pre .0) j (g .line .upper) _ (each-of (g .s .value)) (c .before .count .ensures j h))
 
 returns-3 : tie.Need-returns-3
 unfolding Taken Each taken next
 returns-3 c =
-    let s = c .before .before .before .before .before .before .before .before .before .before in
+    let s = c .before .before .before .before .before .before .before .before .before .before .before .before in
     let g = s .args in
     let most = round-means (g .line .n) (g .start) (length (g .log .now)) (s .pre .0) .0 in
-    let zs = c .before .before .before .count2 in
+    let zs = c .before .before .before .before .count2 in
     let os = c .before .before .count3 in
     let y = all-of (g .line .n) (c .before .decide .result) (λ j. y-from (getD (zs .result) j 0) (getD (os .result) j 0)) most (c .before .decide .ensures) in
     let grade = all-of (g .line .n) (c .grade2 .result) (λ j. grade-of (g .line .n) (g .line .t) (g .line .upper) (for-y (getD (zs .result) j 0) (getD (os .result) j 0))) most (c .grade2 .ensures) in
-    λ r j h. rw (c .before .before .before .before .enum-told3 .given .1, y j h, grade j h, y-made (g .line .n) (g .start) (g .log .now) (s .pre .0) j _ _ (zs .ensures j h) (os .ensures j h), grade-made (g .line .n) (g .start) (g .log .now) (s .pre .0) j _ _ (zs .ensures j h) (os .ensures j h) (g .line .t) (g .line .upper))
+    λ r j h. rw (c .before .before .before .before .before .before .enum-told3 .given .1, y j h, grade j h, y-made (g .line .n) (g .start) (g .log .now) (s .pre .0) j _ _ _ _ (wanted-is _ 0 j most h) (wanted-is _ 1 j most h) (zs .ensures j h) (os .ensures j h), grade-made (g .line .n) (g .start) (g .log .now) (s .pre .0) j _ _ _ _ (wanted-is _ 0 j most h) (wanted-is _ 1 j most h) (zs .ensures j h) (os .ensures j h) (g .line .t) (g .line .upper))
 
 returns-4 : tie.Need-returns-4
 unfolding Taken Each taken next

@@ -7,15 +7,15 @@ use lib.ListN.{length, getD, length-set}
 use Rattle.line.specs.Writing.{Each}
 use Rattle.line.proofs.WritingLaws.{each-none, each-turn}
 use Rattle.broadcast.specs.Exchange.{z-from}
-use Rattle.stations.specs.Counts.{equal-to}
+use Rattle.stations.specs.Counts.{votes-for}
 use Rattle.stations.proofs.choose.Statement.{statement}
 use Rattle.stations.proofs.choose.Tie as tie
 
 abbrev Inv-loop : tie.InvT-loop
-Inv-loop line x ones next₀ j₀ next j = (j ≤ 32) × (length next ≡ 32) × Each j next (λ k. z-from (line .n) (line .upper) (getD x k 0) (equal-to (line .n) (getD x k 0) (getD ones k 0)))
+Inv-loop line x equal next₀ j₀ next j = (j ≤ 32) × (length next ≡ 32) × Each j next (λ k. z-from (line .n) (line .upper) (getD x k 0) (votes-for (getD x k 0) (getD equal k 0)))
 
 abbrev μ-loop : tie.MeasureT-loop
-μ-loop line x ones next₀ j₀ next j = 32 - j
+μ-loop line x equal next₀ j₀ next j = 32 - j
 
 loop-holds : tie.Need-loop-holds Inv-loop μ-loop
 loop-holds c = (omega arith, refl, each-none _ _)
@@ -23,14 +23,14 @@ loop-holds c = (omega arith, refl, each-none _ _)
 cast-k : tie.Need-cast-k Inv-loop μ-loop
 cast-k c = search needs
 
-array-read-equal-to : tie.Need-array-read-equal-to Inv-loop μ-loop
-array-read-equal-to c = search needs
+array-read-votes-for : tie.Need-array-read-votes-for Inv-loop μ-loop
+array-read-votes-for c = search needs
 
-array-read-equal-to-2 : tie.Need-array-read-equal-to-2 Inv-loop μ-loop
-array-read-equal-to-2 c = search needs
+array-read-votes-for-2 : tie.Need-array-read-votes-for-2 Inv-loop μ-loop
+array-read-votes-for-2 c = search needs
 
-equal-to-requires : tie.Need-equal-to-requires Inv-loop μ-loop
-equal-to-requires c κs = search needs
+votes-for-requires : tie.Need-votes-for-requires Inv-loop μ-loop
+votes-for-requires c κs = search needs
 
 array-read-z : tie.Need-array-read-z Inv-loop μ-loop
 array-read-z c = search needs
@@ -50,7 +50,7 @@ loop-less c = search needs
 loop-again : tie.Need-loop-again Inv-loop μ-loop
 loop-again c =
     let a = c .before .before .before in
-    (omega arith, simp length-set (a .loop .inv .1), each-turn (a .loop .next) _ (a .loop .j) _ (omega (arith, a .loop .inv .1)) (a .loop .inv .2) (rw (c .before .equal-to .ensures) at (c .z .ensures)))
+    (omega arith, simp length-set (a .loop .inv .1), each-turn (a .loop .next) _ (a .loop .j) _ (omega (arith, a .loop .inv .1)) (a .loop .inv .2) (rw (c .before .votes-for .ensures) at (c .z .ensures)))
 
 returns : tie.Need-returns Inv-loop μ-loop
 returns c =
@@ -66,9 +66,9 @@ choose-spec =
     μ-loop
     loop-holds
     cast-k
-    array-read-equal-to
-    array-read-equal-to-2
-    equal-to-requires
+    array-read-votes-for
+    array-read-votes-for-2
+    votes-for-requires
     array-read-z
     z-requires
     array-write-next
