@@ -88,6 +88,8 @@ both-hold = (
       then (fate _, refl)
       then (fate _, refl)
       then (fate _, refl)
+      then (fate _, refl)
+      then (fate _, refl)
       then tt,
 )
 

@@ -7,22 +7,41 @@ use Rattle.cases.specs.Cases.{case-B}
 
 -- ---- runs
 
--- "a byte other than 0 or 1 is read as 0": the bad sender, handed 1, is silent, and all take 0
+-- "a byte other than 0 or 1 is read as 0" in round 1, and request 2, "The sender's round keeps its default.": the bad sender, handed 1, is silent, and all take 0
 abbrev pub silent-sender : Case
 silent-sender = record {
   sheet = head 4 1 1 4 1 0 8;
   comes-out = prints (opening 4 1 1 4 9 ∷ good 1 0 2 0 ∷ good 2 0 2 0 ∷ good 3 0 2 0 ∷ bad 4 ∷ []);
 }
 
--- "(a byte other than 0 or 1 is read as 0)", of the king's ballot: stations 2 and 3 leave the first exchange with y 1 and grade 0, the bad
--- king is silent, and both take 0. Read as 1, or not obeyed, both would end with 1.
+-- request 2, "In the first round of an exchange a byte other than 0 or 1 now counts for neither value": case B with a blank and a garbled ballot to the two
+-- stations whose x is 0, in place of silence
+abbrev pub neither-value : Case
+neither-value = record {
+  sheet = head 4 0 1 4 0 1 8 ++ rec 1 4 1 1 2 ++ rec 1 4 2 0 3 ++ rec 1 4 3 0 4 ++ rec 2 4 2 2 5 ++ rec 2 4 3 128 0;
+  comes-out = case-B .comes-out;
+}
+
+-- request 2, "a king's unreadable ballot leaves a grade 0 station with its own y": stations 2 and 3 enter the first exchange with 0 and 1 and leave it with y 1
+-- and grade 0, the bad king is silent, and both keep 1. With the king read as 0 both would end with 0, with the x that they entered with both at grade 0
 abbrev pub silent-king : Case
 silent-king = record {
   sheet =
       head 3 0 1 1 0 1 1
       ++ rec 1 1 2 0 2 ++ rec 1 1 3 1 3
       ++ rec 2 1 2 1 4 ++ rec 2 1 3 0 0;
-  comes-out = prints (opening 3 0 1 1 6 ∷ bad 1 ∷ good 2 0 1 1 ∷ good 3 0 1 1 ∷ []);
+  comes-out = prints (opening 3 0 1 1 6 ∷ bad 1 ∷ good 2 1 1 1 ∷ good 3 1 1 1 ∷ []);
+}
+
+-- the same with a blank and a garbled ballot from the king
+abbrev pub unreadable-king : Case
+unreadable-king = record {
+  sheet =
+      head 3 0 1 1 0 1 1
+      ++ rec 1 1 2 0 2 ++ rec 1 1 3 1 3
+      ++ rec 2 1 2 1 4 ++ rec 2 1 3 0 5
+      ++ rec 4 1 2 2 6 ++ rec 4 1 3 128 0;
+  comes-out = silent-king .comes-out;
 }
 
 -- "y = 0 if a exceeds b, otherwise y = 1.": in round 6 station 1 has its own zero and a one, as many of each, and ends with 1
@@ -42,7 +61,7 @@ all-but-ten = record {
       prints
       (opening 25 0 12 10 6
       ∷ bad 1 ∷ bad 2 ∷ bad 3 ∷ bad 4 ∷ bad 5 ∷ bad 6 ∷ bad 7 ∷ bad 8
-      ∷ bad 9 ∷ good 10 0 0 1 ∷ bad 11 ∷ bad 12 ∷ bad 13 ∷ bad 14 ∷ bad 15 ∷ bad 16
+      ∷ bad 9 ∷ good 10 1 0 1 ∷ bad 11 ∷ bad 12 ∷ bad 13 ∷ bad 14 ∷ bad 15 ∷ bad 16
       ∷ bad 17 ∷ bad 18 ∷ bad 19 ∷ bad 20 ∷ bad 21 ∷ bad 22 ∷ bad 23 ∷ bad 24
       ∷ bad 25 ∷ []);
 }
@@ -69,8 +88,8 @@ two-digits = record {
       ++ (55 ∷ 32 ∷ 45 ∷ 32 ∷ 45 ∷ 32 ∷ 45 ∷ 10 ∷ [])
       ++ (56 ∷ 32 ∷ 45 ∷ 32 ∷ 45 ∷ 32 ∷ 45 ∷ 10 ∷ [])
       ++ (57 ∷ 32 ∷ 45 ∷ 32 ∷ 45 ∷ 32 ∷ 45 ∷ 10 ∷ [])
-      ++ (49 ∷ 48 ∷ 32 ∷ 48 ∷ 32 ∷ 48 ∷ 32 ∷ 49 ∷ 10 ∷ [])
-      ++ (49 ∷ 49 ∷ 32 ∷ 48 ∷ 32 ∷ 48 ∷ 32 ∷ 49 ∷ 10 ∷ []));
+      ++ (49 ∷ 48 ∷ 32 ∷ 49 ∷ 32 ∷ 48 ∷ 32 ∷ 49 ∷ 10 ∷ [])
+      ++ (49 ∷ 49 ∷ 32 ∷ 49 ∷ 32 ∷ 48 ∷ 32 ∷ 49 ∷ 10 ∷ []));
 }
 
 -- every number that can have two digits has two: the longest listing (`Listing-short` of crate listing). All stations are marked.
@@ -117,7 +136,9 @@ case-B-again = record { sheet = case-B .sheet; comes-out = rewritten-as (case-B 
 abbrev pub further : List Case
 further =
     silent-sender
+    ∷ neither-value
     ∷ silent-king
+    ∷ unreadable-king
     ∷ equal-counts
     ∷ all-but-ten
     -- a ballot of each of the four stations, and one of station 27, which is not marked

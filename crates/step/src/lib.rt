@@ -110,5 +110,9 @@ pub fn flag(grade: u8) -> u8
 pub fn obey(grade: u8, y: u8, b: u8) -> u8
     ensures { λ r. ⌜ r ≡ obey grade y b ⌝ }
 {
-    if grade == 0 { ballot::read_king(y, b) } else { y }
+    if grade == 0 {
+        ballot::read_king(y, b)
+    } else {
+        y
+    }
 }
