@@ -1,50 +1,37 @@
 //! The graded exchange (graded consensus): what a station makes of its two rows, the same for
 //! every receiver of a round at once, and the exchange had alone.
 
-use crate::line::{read_bit, read_or_blank, require, Cause, Line, Marks, BLANK, STATIONS};
+use crate::line::{require, Cause, Line, Marks, BLANK, STATIONS};
 
 /// A byte for each station. Places beyond n are not used.
 pub type PerStation = [u8; STATIONS];
 
-/// How many ballots of a row of n are read as 0, 1 and blank.
+/// How many ballots of a row of n count for 0, for 1 and for neither value.
 #[derive(Clone, Copy, PartialEq, Eq, Debug, Default)]
 pub struct Tally {
     pub zeros: u8,
     pub ones: u8,
-    pub blanks: u8,
+    pub neither: u8,
 }
 
 impl Tally {
-    /// Step 1: a byte other than 0 or 1 is read as 0.
-    pub fn first(row: &[u8]) -> Tally {
-        Tally::of(row.iter().map(|&byte| read_bit(byte)))
-    }
-
-    /// Step 3: a byte other than 0 or 1 is read as blank.
-    pub fn second(row: &[u8]) -> Tally {
-        Tally::of(row.iter().map(|&byte| read_or_blank(byte)))
-    }
-
-    fn of(ballots: impl Iterator<Item = u8>) -> Tally {
+    /// The tally of either round. "In the first round of an exchange a byte other than 0 or 1 now counts for
+    /// neither value"; in the second it is read as blank, and "blanks count for neither".
+    pub fn of(row: &[u8]) -> Tally {
         let mut tally = Tally::default();
-        for ballot in ballots {
-            match ballot {
+        for byte in row {
+            match byte {
                 0 => tally.zeros += 1,
                 1 => tally.ones += 1,
-                _ => tally.blanks += 1,
+                _ => tally.neither += 1,
             }
         }
         tally
     }
 
-    /// Step 2: z is x if at least n−T ballots equal x, otherwise blank.
+    /// Step 2 for x, 0 or 1.
     pub fn z(&self, line: &Line, x: u8) -> u8 {
-        let equal = if x == 0 { self.zeros } else { self.ones };
-        if equal >= line.quorum() {
-            x
-        } else {
-            BLANK
-        }
+        z_of(line, x, if x == 0 { self.zeros } else { self.ones })
     }
 
     /// Steps 4 and 5: y, and how well it is backed.
@@ -61,42 +48,46 @@ impl Tally {
     }
 }
 
+/// Step 2: z is x if at least n−T ballots equal x, otherwise blank.
+fn z_of(line: &Line, x: u8, equal: u8) -> u8 {
+    if equal >= line.quorum() {
+        x
+    } else {
+        BLANK
+    }
+}
+
 /// The flag is 1 when the grade is below 2.
 pub fn flag(grade: u8) -> u8 {
     u8::from(grade < 2)
 }
 
-/// For each receiver, how many of a round's n·n bytes to it are `byte`.
-fn count(line: &Line, said: &[u8], byte: u8) -> PerStation {
+/// For each receiver, how many of a round's n·n bytes to it are the one that is `wanted` of it.
+fn count(line: &Line, said: &[u8], wanted: &PerStation) -> PerStation {
     let mut counts = [0; STATIONS];
     for from_one in said.chunks_exact(line.n()) {
-        for (count, &ballot) in counts.iter_mut().zip(from_one) {
+        for ((count, &ballot), &byte) in counts.iter_mut().zip(from_one).zip(wanted) {
             *count += u8::from(ballot == byte);
         }
     }
     counts
 }
 
-/// Steps 1 and 2 at every receiver: each one's z from the first round's n·n bytes.
+/// Steps 1 and 2 at every receiver: each one's z from the first round's n·n bytes. A byte other than 0 or 1 equals
+/// no good station's x.
 pub fn hear_first(line: &Line, said: &[u8], x: &PerStation) -> PerStation {
-    let n = line.n() as u8;
-    let ones = count(line, said, 1);
-    let mut z = [BLANK; STATIONS];
-    for station in 0..line.n() {
-        let tally = Tally { zeros: n - ones[station], ones: ones[station], blanks: 0 };
-        z[station] = tally.z(line, x[station]);
-    }
-    z
+    let equal = count(line, said, x);
+    std::array::from_fn(|station| z_of(line, x[station], equal[station]))
 }
 
 /// Steps 3 to 5 at every receiver: each one's y and grade from the second round's n·n bytes.
 pub fn hear_second(line: &Line, said: &[u8]) -> (PerStation, PerStation) {
     let n = line.n() as u8;
-    let (zeros, ones) = (count(line, said, 0), count(line, said, 1));
+    let (zeros, ones) = (count(line, said, &[0; STATIONS]), count(line, said, &[1; STATIONS]));
     let (mut y, mut grade) = ([0; STATIONS], [0; STATIONS]);
     for station in 0..line.n() {
         let (a, b) = (zeros[station], ones[station]);
-        let tally = Tally { zeros: a, ones: b, blanks: n - a - b };
+        let tally = Tally { zeros: a, ones: b, neither: n - a - b };
         (y[station], grade[station]) = tally.graded(line);
     }
     (y, grade)

@@ -1,5 +1,5 @@
-//! A second implementation of document 01 with Ticket 1 of document 02: Byzantine agreement on one bit with two
-//! thresholds.
+//! A second implementation of document 01 with Tickets 1 and 2 of document 02: Byzantine agreement on one bit with
+//! two thresholds.
 //!
 //! It shares no code and no table with the crates, so that the two can be compared byte for byte.
 //! Stations and rounds are numbered from 1, as in the document. T is called `upper`.

@@ -92,17 +92,17 @@ pub fn require(holds: bool, cause: Cause) -> Result<(), Cause> {
     }
 }
 
-/// A ballot read in round 1, in the first round of an exchange, and from a king: 0 unless it is 1.
-pub fn read_bit(byte: u8) -> u8 {
+/// The sender's ballot: "a byte other than 0 or 1 is read as 0".
+pub fn read_sender(byte: u8) -> u8 {
     u8::from(byte == 1)
 }
 
-/// A ballot read in the second round of an exchange: blank unless it is 0 or 1.
-pub fn read_or_blank(byte: u8) -> u8 {
+/// The king's ballot at grade 0: "a king's unreadable ballot leaves a grade 0 station with its own y".
+pub fn read_king(byte: u8, y: u8) -> u8 {
     if byte <= 1 {
         byte
     } else {
-        BLANK
+        y
     }
 }
 

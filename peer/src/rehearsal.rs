@@ -1,7 +1,7 @@
 //! The rehearsal of a whole broadcast: every round's ballots into the log, then the outcomes.
 
 use crate::exchange::{hear_first, hear_second, speak, write_outcomes, PerStation};
-use crate::line::{read_bit, require, Cause, Header, Line, Part, BLANK, SILENCE, STATIONS};
+use crate::line::{read_king, read_sender, require, Cause, Header, Line, Part, BLANK, SILENCE, STATIONS};
 
 /// What the stations hold between two rounds. What stands at a bad station's place is never used.
 struct Stations<'a> {
@@ -30,16 +30,16 @@ impl Stations<'_> {
             Part::Sender => {
                 let bytes = self.line.from_one(self.header.sender, said);
                 for (x, &byte) in self.value.iter_mut().zip(bytes) {
-                    *x = read_bit(byte);
+                    *x = read_sender(byte);
                 }
             }
             Part::First => self.z = hear_first(&self.line, said, &self.value),
             Part::Second => (self.value, self.grade) = hear_second(&self.line, said),
             Part::King(king) => {
                 let bytes = self.line.from_one(king, said);
-                for ((x, &grade), &byte) in self.value.iter_mut().zip(&self.grade).zip(bytes) {
+                for ((value, &grade), &byte) in self.value.iter_mut().zip(&self.grade).zip(bytes) {
                     if grade == 0 {
-                        *x = read_bit(byte);
+                        *value = read_king(byte, *value);
                     }
                 }
             }

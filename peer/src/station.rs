@@ -1,7 +1,7 @@
 //! One station as it runs in a bonder. Any nine bytes may be handed in as its state; they are judged.
 
 use crate::exchange::{flag, Tally};
-use crate::line::{read_bit, require, Cause, Line, Part, BLANK, SILENCE};
+use crate::line::{read_king, read_sender, require, Cause, Line, Part, BLANK, SILENCE};
 
 /// A station's state, nine bytes.
 #[derive(Clone, Copy, PartialEq, Eq, Debug)]
@@ -79,11 +79,11 @@ impl Station {
         require(row.len() == line.n(), Cause::Length)?;
         let mut next = Station { round: self.round + 1, ..*self };
         match line.part(self.round) {
-            Part::Sender => next.value = read_bit(row[usize::from(self.sender) - 1]),
-            Part::First => next.z = Tally::first(row).z(&line, self.value),
-            Part::Second => (next.value, next.grade) = Tally::second(row).graded(&line),
+            Part::Sender => next.value = read_sender(row[usize::from(self.sender) - 1]),
+            Part::First => next.z = Tally::of(row).z(&line, self.value),
+            Part::Second => (next.value, next.grade) = Tally::of(row).graded(&line),
             Part::King(king) if self.grade == 0 => {
-                next.value = read_bit(row[usize::from(king) - 1]);
+                next.value = read_king(row[usize::from(king) - 1], self.value);
             }
             Part::King(_) => {}
         }

@@ -157,6 +157,17 @@ fn speaks(header: &Header, line: &Line, round: u8, station: u8) -> bool {
     }
 }
 
+/// With both tables the good stations send the same and end with the same outcomes.
+fn same_good_stations(header: &Header, table: &[u8], other: &[u8]) {
+    let ((log, outcomes), (other_log, other_outcomes)) = (run(header, table), run(header, other));
+    assert_eq!(outcomes, other_outcomes);
+    let n = usize::from(header.n);
+    for (place, (byte, other)) in log.iter().zip(&other_log).enumerate() {
+        let from = (place / n % n + 1) as u8;
+        assert!(header.marks.bad(from) || byte == other);
+    }
+}
+
 /// Table bytes of good senders, and of bad ones that should not speak, have no effect.
 #[test]
 fn what_has_no_effect() {
@@ -173,12 +184,23 @@ fn what_has_no_effect() {
                 }
             }
         }
-        let ((log, outcomes), (other_log, other_outcomes)) = (run(&header, &table), run(&header, &other));
-        assert_eq!(outcomes, other_outcomes);
-        for (place, (byte, other)) in log.iter().zip(&other_log).enumerate() {
-            let from = (place / line.n() % line.n() + 1) as u8;
-            assert!(header.marks.bad(from) || byte == other);
-        }
+        same_good_stations(&header, &table, &other);
+    }
+}
+
+/// Which byte other than 0 and 1 stands in a table has no effect: blank, garbled or silence.
+#[test]
+fn foreign_bytes_are_alike() {
+    let mut lot = Lot(16);
+    for _ in 0..3_000 {
+        let header = lot.header(7);
+        let line = header.judge().unwrap();
+        let table = lot.table(&line);
+        let other: Vec<u8> = table
+            .iter()
+            .map(|&byte| if byte <= 1 { byte } else { lot.pick(&[2, 3, 77, 254, 255]) })
+            .collect();
+        same_good_stations(&header, &table, &other);
     }
 }
 
@@ -216,18 +238,16 @@ fn exchange_alone() {
     }
 }
 
-/// Zeros, ones and blanks make n, in both rounds; in the first none is blank.
+/// The bytes 0, the bytes 1 and the others make n.
 #[test]
 fn tallies_make_n() {
     let mut lot = Lot(15);
     for _ in 0..20_000 {
         let n = 1 + lot.below(32) as usize;
         let row: Vec<u8> = (0..n).map(|_| lot.ballot()).collect();
-        let (first, second) = (Tally::first(&row), Tally::second(&row));
-        assert_eq!(usize::from(first.zeros + first.ones), n);
-        assert_eq!(first.blanks, 0);
-        assert_eq!(usize::from(second.zeros + second.ones + second.blanks), n);
-        assert_eq!(usize::from(second.zeros), row.iter().filter(|&&byte| byte == 0).count());
-        assert_eq!(first.ones, second.ones);
+        let Tally { zeros, ones, neither } = Tally::of(&row);
+        let bytes = |byte: u8| row.iter().filter(|&&other| other == byte).count();
+        assert_eq!((usize::from(zeros), usize::from(ones)), (bytes(0), bytes(1)));
+        assert_eq!(usize::from(zeros + ones + neither), n);
     }
 }

@@ -8,33 +8,33 @@ use peer::line::{Line, Marks};
 use peer::rehearsal::rehearse;
 use peer::station::{Answer, Station};
 
+/// Bytes other than 0 and 1: blank, garbled, silence.
+const FOREIGN: [u8; 5] = [2, 3, 77, 254, 255];
+
 #[test]
-fn step_1_reads_a_foreign_byte_as_0() {
+fn a_foreign_byte_counts_for_neither_value() {
     let row = [0, 1, 2, 255, 77, 3, 1];
-    assert_eq!(Tally::first(&row), Tally { zeros: 5, ones: 2, blanks: 0 });
+    assert_eq!(Tally::of(&row), Tally { zeros: 1, ones: 2, neither: 4 });
 }
 
 #[test]
 fn step_2_wants_n_minus_upper() {
     let line = Line::new(7, 1, 2).unwrap();
-    let z = |row: [u8; 7], x| Tally::first(&row).z(&line, x);
+    let z = |row: [u8; 7], x| Tally::of(&row).z(&line, x);
     assert_eq!(z([1, 1, 1, 1, 1, 0, 0], 1), 1);
     assert_eq!(z([1, 1, 1, 1, 1, 0, 0], 0), 2);
     assert_eq!(z([1, 1, 1, 1, 0, 0, 0], 1), 2);
-    assert_eq!(z([1, 1, 0, 0, 2, 9, 255], 0), 0);
-    assert_eq!(z([1, 1, 1, 0, 2, 9, 255], 0), 2);
-}
-
-#[test]
-fn step_3_reads_a_foreign_byte_as_blank() {
-    let row = [0, 1, 2, 255, 77, 3, 1];
-    assert_eq!(Tally::second(&row), Tally { zeros: 1, ones: 2, blanks: 4 });
+    for byte in FOREIGN {
+        assert_eq!(z([0, 0, 0, 0, 0, byte, byte], 0), 0);
+        assert_eq!(z([0, 0, 0, 0, byte, 1, 1], 0), 2, "{byte} counts for 0");
+        assert_eq!(z([1, 1, 1, 1, byte, 0, 0], 1), 2, "{byte} counts for 1");
+    }
 }
 
 #[test]
 fn steps_4_and_5() {
     let line = Line::new(7, 1, 2).unwrap();
-    let graded = |row: [u8; 7]| Tally::second(&row).graded(&line);
+    let graded = |row: [u8; 7]| Tally::of(&row).graded(&line);
     assert_eq!(graded([0, 0, 0, 0, 0, 0, 1]), (0, 2));
     assert_eq!(graded([0, 0, 0, 0, 0, 2, 2]), (0, 1));
     assert_eq!(graded([0, 0, 0, 0, 2, 2, 2]), (0, 0));
@@ -57,11 +57,14 @@ fn an_exchange_of_four() {
     assert_eq!(exchange([0, 0, 1, 1], 0, &[0; 32]), [1, 0, 1, 1, 0, 1, 1, 0, 1, 1, 0, 1]);
     // three zeros are n−T: the fourth is blank, and three zeros are n−t
     assert_eq!(exchange([0, 0, 0, 1], 0, &[1; 32]), [0, 2, 0, 0, 2, 0, 0, 2, 0, 0, 2, 0]);
-    // station 4 bad and silent: read as 0 in the first round, as blank in the second
-    let silent = exchange([1, 1, 1, 99], 0b1000, &[255; 32]);
-    assert_eq!(silent, [1, 2, 0, 1, 2, 0, 1, 2, 0, 255, 255, 255]);
-    let silent = exchange([0, 0, 1, 99], 0b1000, &[255; 32]);
-    assert_eq!(silent, [0, 0, 1, 0, 0, 1, 0, 0, 1, 255, 255, 255]);
+    // station 4 bad: a foreign byte counts for neither value, so two of three are too few, and all are blank
+    for byte in FOREIGN {
+        let foreign = |inputs| exchange(inputs, 0b1000, &[byte; 32]);
+        assert_eq!(foreign([1, 1, 1, 99]), [1, 2, 0, 1, 2, 0, 1, 2, 0, 255, 255, 255]);
+        assert_eq!(foreign([0, 0, 0, 99]), [0, 2, 0, 0, 2, 0, 0, 2, 0, 255, 255, 255]);
+        assert_eq!(foreign([0, 0, 1, 99]), [1, 0, 1, 1, 0, 1, 1, 0, 1, 255, 255, 255], "{byte}");
+        assert_eq!(foreign([1, 1, 0, 99]), [1, 0, 1, 1, 0, 1, 1, 0, 1, 255, 255, 255], "{byte}");
+    }
 }
 
 #[test]
@@ -74,12 +77,13 @@ fn a_station_of_one_round_after_another() {
     };
     // the sender's ballot is garbled: read as 0; z and grade stay as they were
     assert_eq!(step(255, [1, 7, 1, 1]), (2, 0, 2, 0));
-    assert_eq!(step(0, [1, 255, 0, 0]), (3, 0, 0, 0));
+    // silence counts for neither value: two zeros are too few
+    assert_eq!(step(0, [1, 255, 0, 0]), (3, 0, 2, 0));
     // two zeros, one one, a blank: y 0, grade 0
-    assert_eq!(step(0, [0, 1, 0, 2]), (4, 0, 0, 0));
+    assert_eq!(step(2, [0, 1, 2, 0]), (4, 0, 2, 0));
     // king 1 is obeyed at grade 0
-    assert_eq!(step(255, [1, 0, 0, 0]), (5, 1, 0, 0));
-    assert_eq!(step(1, [1, 1, 0, 0]), (6, 1, 2, 0));
+    assert_eq!(step(255, [1, 255, 255, 255]), (5, 1, 2, 0));
+    assert_eq!(step(1, [1, 0, 1, 0]), (6, 1, 2, 0));
     assert_eq!(step(2, [1, 1, 1, 255]), (7, 1, 2, 2));
     // king 2 is not obeyed at grade 2
     assert_eq!(step(255, [0, 0, 0, 0]), (8, 1, 2, 2));
@@ -107,14 +111,58 @@ fn a_king_is_obeyed_at_grade_0() {
     }
 }
 
-/// A garbled, blank or missing king's ballot is read as 0.
+/// A garbled, blank or missing sender's ballot is read as 0, whatever a station was opened with.
+#[test]
+fn a_foreign_sender() {
+    for (byte, value) in FOREIGN.iter().flat_map(|&byte| [(byte, 0), (byte, 1)]) {
+        for own in 1..=4 {
+            let station = Station::open((4, 1, 1), 2, own, value).unwrap();
+            assert_eq!(station.take(&[1, byte, 1, 1]).unwrap().value, 0, "{byte}");
+        }
+    }
+}
+
+/// A garbled, blank or missing king's ballot leaves a station with its own y, at every grade.
 #[test]
 fn a_foreign_king() {
-    for byte in [0, 1, 2, 3, 254, 255] {
-        let station = Station::from_bytes([4, 1, 1, 2, 3, 4, 1, 2, 0]);
-        let next = station.take(&[byte, 1, 1, 1]).unwrap();
-        assert_eq!(next.value, u8::from(byte == 1));
+    for (byte, y) in FOREIGN.iter().flat_map(|&byte| [(byte, 0), (byte, 1)]) {
+        for grade in 0..=2 {
+            let station = Station::from_bytes([4, 1, 1, 2, 3, 4, y, 2, grade]);
+            assert_eq!(station.take(&[byte, 1 - y, 1 - y, 1 - y]).unwrap().value, y, "{byte}, grade {grade}");
+        }
     }
+}
+
+/// What a foreign king leaves is the y of this phase's exchange, not the x that the station entered it with.
+#[test]
+fn a_foreign_king_leaves_y() {
+    let left_with = |rows: [[u8; 4]; 3]| {
+        let mut station = Station::open((4, 1, 1), 2, 3, 0).unwrap();
+        for row in rows {
+            station = station.take(&row).unwrap();
+        }
+        assert_eq!((station.round, station.grade), (4, 0));
+        station.take(&[255; 4]).unwrap().ballot().unwrap()
+    };
+    // x 1, then two zeros beside two blanks; x 0, then blanks only
+    assert_eq!(left_with([[255, 1, 255, 255], [0, 0, 1, 1], [0, 0, 2, 2]]), 0);
+    assert_eq!(left_with([[255, 0, 255, 255], [1, 1, 0, 0], [2, 2, 2, 2]]), 1);
+}
+
+/// The sender is king 1 too. It is bad, tells station 2 a zero and station 4 a one, and is silent otherwise.
+#[test]
+fn the_log_of_a_silent_king() {
+    let mut table = [255; 9 * 16];
+    (table[1], table[3]) = (0, 1);
+    let (mut log, mut outcomes) = ([9; 9 * 16], [9; 12]);
+    rehearse(&header(4, 1, 1, 1, 0, 0b0001), &table, &mut log, &mut outcomes).unwrap();
+    // x is 0, 0, 1, each too few for z; y is 1 with grade 0, and king 1 leaves it so; then all have 1, king 2 too
+    let (none, ones) = ([255; 3], [1; 3]);
+    let sent = [none, [0, 0, 1], [2, 2, 2], none, ones, ones, [1, 255, 255], ones, ones];
+    for ((said, ballots), round) in log.chunks(16).zip(sent).zip(1..) {
+        assert_eq!(said[4..], ballots.map(|ballot| [ballot; 4]).concat(), "round {round}");
+    }
+    assert_eq!(outcomes, [255, 255, 255, 1, 2, 0, 1, 2, 0, 1, 2, 0]);
 }
 
 /// Good stations that don't speak are logged as silent.
