@@ -1,5 +1,5 @@
 //! The thresholds and letters of a run, in a planner's words: document 01, "The graded exchange" and "The
-//! broadcast".
+//! broadcast", with Ticket 2 of document 02.
 
 use crate::line::Line;
 
@@ -56,12 +56,12 @@ fn words(line: &Line) -> Vec<Meaning> {
     let (t, kings) = (line.t(), line.t() + 1);
     let phases = if kings == 1 { "phase" } else { "phases" };
     let king =
-        "one station a phase: with grade 0 a station's new x is what the king tells it, else its own y";
+        "one station a phase: with grade 0 a station takes the king's 0 or 1 as its new x, otherwise its own y";
     let flag = format!(
         "raised if the last grade is below 2; a good station's flag proves that more than t = {t} are bad"
     );
     let ballot =
-        "the byte that one tells another; if not 0 or 1 it is read as 0, in an exchange's second round as blank";
+        "the byte that one tells another; if not 0 or 1 it counts for neither, but in round 1 it is read as 0";
     vec![
         entry("king", king),
         entry(
