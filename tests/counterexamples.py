@@ -1,9 +1,9 @@
 #!/usr/bin/env python3
 """For each must-fail edit of the definitions of crate broadcast: a run in which the edited protocol breaks a theorem.
 
-The prover refuses each edit. This test shows that it is right to: it runs document 01's steps, and the same steps
+The prover refuses each edit. This test shows that it is right to: it runs the documents' steps, and the same steps
 with the edit, on small lines with random bad stations, and looks for a run that breaks a statement of
-crates/broadcast/specs/Theorems.antt. The steps as document 01 has them must break none; each edit must break one.
+crates/broadcast/specs/Theorems.antt. The steps as the documents have them must break none; each edit must break one.
 Stations are counted from 0 and rounds from 1, as in the definitions. Prints a line for each check.
 """
 import pathlib
@@ -132,7 +132,7 @@ def search(rules, broken, tries):
 def main():
     failed = 0
     found = search(Rules, any_theorem, 4000)
-    print("as document 01 has it: " + (f"BREAKS {found[0]} at {found[1]}" if found else "no theorem broken in 4000 runs"))
+    print("as the documents have it: " + (f"BREAKS {found[0]} at {found[1]}" if found else "no theorem broken in 4000 runs"))
     failed += found is not None
     there = {p.stem for p in EDITS.glob("*.edit")}
     for name in sorted(there | set(EDITED)):

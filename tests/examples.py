@@ -1,7 +1,7 @@
 #!/usr/bin/env python3
 """The examples: run sheets, each with the text that it stands for and its listing.
 
-examples.py          writes the sheets and listings of examples/: document 01's cases A to D, a large run in which ten bad stations divide the good ones,
+examples.py          writes the sheets and listings of examples/: the documents' cases A to D, a large run in which ten bad stations divide the good ones,
                      the longest listing, and an untidy sheet beside the tidy one that it is rewritten to. The texts are written by hand, the picture of
                      case C by ./draw
 examples.py --check  holds each sheet to the one made here and to its text, its listing to the model's, and what the program agree prints to the listing; then
@@ -26,7 +26,7 @@ PROGRAM, REWRITE = (os.path.join(TOP, "target", "bin", name) for name in ("agree
 UNTIDY = "untidy"
 
 
-# ---- a listing in Python, from document 01
+# ---- a listing in Python, from the documents
 
 
 def listing(data):

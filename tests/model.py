@@ -1,4 +1,4 @@
-"""Document 01's steps, for the tests: the graded exchange, the broadcast with its log, and the single station.
+"""Document 01's steps with document 02's Ticket 2, for the tests: the graded exchange, the broadcast with its log, and the single station.
 
 Stations are counted from 0 and rounds from 1, as in the definitions of crate broadcast.
 """
@@ -6,7 +6,7 @@ BLANK, SILENCE = 2, 255
 
 
 class Rules:
-    """Document 01's steps. An edit replaces one of them."""
+    """The documents' steps. An edit replaces one of them."""
 
     keeps = staticmethod(lambda n, T, count: count >= n - T)
     read_second = staticmethod(lambda b: b if b <= 1 else BLANK)
@@ -25,8 +25,14 @@ class Rules:
     speaks_first = staticmethod(lambda i, sender: i == sender)
 
 
-def bit(b):
+def read_sender(b):
+    """In round 1 "a byte other than 0 or 1 is read as 0"."""
     return b if b <= 1 else 0
+
+
+def read_king(b, y):
+    """What a station takes at grade 0: "a king's unreadable ballot leaves a grade 0 station with its own y"."""
+    return b if b <= 1 else y
 
 
 class Run:
@@ -50,6 +56,11 @@ def sends(rules, run, r, i, j, b):
     return run.entry(r, i, j) if rules.takes_table(run.bad[i]) else b
 
 
+def first_step(rules, run, row, x):
+    """Step 2: z. "In the first round of an exchange a byte other than 0 or 1 now counts for neither value": it equals no x."""
+    return x if rules.keeps(run.n, run.T, row.count(x)) else BLANK
+
+
 def second_step(rules, run, row):
     """Steps 4 and 5: y, the grade, and the three counts."""
     read = [rules.read_second(b) for b in row]
@@ -62,8 +73,8 @@ def exchange(rules, run, r, x):
     n = run.n
     z, y, grade, counts = [], [], [], []
     for j in range(n):
-        row = [bit(sends(rules, run, r, i, j, x[i])) for i in range(n)]
-        z.append(x[j] if rules.keeps(n, run.T, row.count(x[j])) else BLANK)
+        row = [sends(rules, run, r, i, j, x[i]) for i in range(n)]
+        z.append(first_step(rules, run, row, x[j]))
     for j in range(n):
         out = second_step(rules, run, [sends(rules, run, r + 1, i, j, z[i]) for i in range(n)])
         y.append(out[0]), grade.append(out[1]), counts.append(out[2])
@@ -74,7 +85,7 @@ def broadcast(rules, run):
     """The bytes said in each round, and value, grade and flag of each station."""
     n, said = run.n, {}
     said[1] = [run.value if rules.speaks_first(i, run.sender) else SILENCE for i in range(n)]
-    x = [bit(sends(rules, run, 1, run.sender, j, run.value)) for j in range(n)]
+    x = [read_sender(sends(rules, run, 1, run.sender, j, run.value)) for j in range(n)]
     for p in range(rules.phases(run.t) + 1):
         r = 3 * (p + 1) - 1
         z, y, grade, counts = exchange(rules, run, r, x)
@@ -82,7 +93,7 @@ def broadcast(rules, run):
         said[r + 2] = [rules.kings_ballot(x[i], y[i]) if i == p else SILENCE for i in range(n)]
         if p < rules.phases(run.t):
             king = [sends(rules, run, r + 2, p, j, said[r + 2][p]) for j in range(n)]
-            x = [bit(king[j]) if rules.obeys(grade[j]) else y[j] for j in range(n)]
+            x = [read_king(king[j], y[j]) if rules.obeys(grade[j]) else y[j] for j in range(n)]
     return said, [rules.bad_outcome if run.bad[j] else (y[j], grade[j], rules.flag(grade[j])) for j in range(n)]
 
 
@@ -114,14 +125,13 @@ class Station:
     def take(self, row):
         rules, run = self.rules, self.run
         if self.round == 1:
-            self.value = bit(row[run.sender])
+            self.value = read_sender(row[run.sender])
         elif self.round % 3 == 2:
-            read = [bit(b) for b in row]
-            self.z = self.value if rules.keeps(run.n, run.T, read.count(self.value)) else BLANK
+            self.z = first_step(rules, run, row, self.value)
         elif self.round % 3 == 0:
             self.value, self.grade, _ = second_step(rules, run, row)
         elif rules.obeys(self.grade):
-            self.value = bit(row[self.round // 3 - 1])
+            self.value = read_king(row[self.round // 3 - 1], self.value)
         self.round += 1
 
     def result(self):

@@ -1,7 +1,7 @@
-"""The sheets that the program of crate runs is given: document 01's cases, every cause in its variants, causes in
+"""The sheets that the program of crate runs is given: the documents' cases, every cause in its variants, causes in
 conflict, chains of every shape, the longest sheets, and sheets drawn by lot, many of them damaged.
 
-Each has the length of the table that is lent with it. Those that are not drawn have the answer that document 01 gives.
+Each has the length of the table that is lent with it. Those that are not drawn have the answer that the documents give.
 """
 from collections import namedtuple
 
@@ -62,13 +62,13 @@ def filler():
     return given(0, chained(call, [Record(*p, 7 * q % 255) for q, p in enumerate(place_numbers(call))]))
 
 
-# ---- document 01's cases
+# ---- document 01's cases, B as Ticket 2 has it
 
 def worked():
     bad, a = [255] * 3, Call(4, 1, 1, 1, 1, 8)
     yield given(0, bytes([4, 1, 1, 1, 1, 0, 0, 0, 8, 0, 0, 0]), outcomes=[1, 2, 0] * 3 + bad)
     told = [Record(1, 4, 1, 1), Record(1, 4, 2, 0), Record(1, 4, 3, 0)]
-    yield given(0, chained(Call(4, 0, 1, 4, 0, 8), told), outcomes=[0, 1, 1] * 3 + bad)
+    yield given(0, chained(Call(4, 0, 1, 4, 0, 8), told), outcomes=[1, 1, 1] * 3 + bad)
     told = [Record(r, 1, j, j - 2) for r in (1, 2, 3, 5, 6) for j in (2, 3)]
     yield given(0, chained(Call(3, 0, 1, 1, 0, 1), told), outcomes=bad + [0, 1, 1, 1, 1, 1])
     yield given(0, header(Call(1, 0, 0, 1, 0, 0)), outcomes=[0, 2, 0])

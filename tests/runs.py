@@ -1,9 +1,9 @@
 #!/usr/bin/env python3
-"""What the program of crate runs reads and must print, computed here from document 01 alone.
+"""What the program of crate runs reads and must print, computed here from documents 01 and 02 alone.
 
     tests/runs.py            prints what it must print
     tests/runs.py --write    writes crates/runs/stdin and crates/runs/stdout
-    tests/runs.py --check    compares with both, and with the answers that document 01 gives
+    tests/runs.py --check    compares with both, and with the answers that the documents give
 
 A run on standard input is the sheet's length and the lent table's, two bytes each, low byte first, then the sheet.
 Each run is a line: its number; n, t, T, sender, value and marks, or the refusal; a checksum of the lent table; and for
@@ -49,7 +49,7 @@ class Reader:
         self.table, self.longer, self.lines, self.causes, self.amiss = [255] * LARGEST, [0] * 65536, [], [], []
 
     def run(self, one):
-        """Reads a sheet and rehearses it. What comes out otherwise than document 01 says is kept in amiss."""
+        """Reads a sheet and rehearses it. What comes out otherwise than the documents say is kept in amiss."""
         buffer, name = self.table if one.lent <= LARGEST else self.longer, f"run {len(self.lines) + 1}:"
         cause, buffer[:one.lent] = sheet.read(one.sheet, buffer[:one.lent])
         table, outcomes = buffer[:one.lent], None
@@ -59,7 +59,7 @@ class Reader:
             log, outcomes = rehearsed(call, table)
             line += f"; accepted: {' '.join(map(str, outcomes))}; sums {checksum(log)} {checksum(outcomes)}"
         if one.cause not in (None, cause) or one.outcomes not in (None, outcomes):
-            self.amiss.append(f"{name} document 01 gives {one.cause} {one.outcomes}, not {cause} {outcomes}")
+            self.amiss.append(f"{name} the documents give {one.cause} {one.outcomes}, not {cause} {outcomes}")
         self.lines.append(line)
         self.causes.append(cause)
 
