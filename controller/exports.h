@@ -4,9 +4,10 @@
  * controller needs none of them; the numbers of refusals are in vembopu.h.
  *
  * R = 3t + 6 is the number of rounds, vembopu_rounds(t). A table has the byte
- * for round r, from i, to j at ((r-1)*n + (i-1))*n + (j-1). In marks, bit i-1
- * is set if station i is marked, which is to say bad. An outcome is three bytes
- * a station: value, grade 0 to 2, flag 0 or 1; a bad station's are 255.
+ * for round r, from i, to j at ((r-1)*n + (i-1))*n + (j-1). Any byte may stand
+ * there; in a run it counts as in a row of vembopu_advance. In marks, bit i-1 is
+ * set if station i is marked, which is to say bad. An outcome is three bytes a
+ * station: value, grade 0 to 2, flag 0 or 1; a bad station's are 255.
  *
  * Each call answers with the number of the refusal, 0 if accepted;
  * vembopu_sheet_len and vembopu_write in the upper 32 of 64 bits, as the

@@ -345,7 +345,7 @@ static void by_lot(void)
     }
 }
 
-/* ---- Document 01's cases ---- */
+/* ---- The documents' cases ---- */
 
 static void check_case(char name, const struct line *l, const uint8_t *want)
 {
@@ -362,7 +362,7 @@ static void cases(void)
     check_case('A', &a, (const uint8_t[]){1, 2, 0, 1, 2, 0, 1, 2, 0, 255, 255, 255});
     table[place(&b, 1, 4, 1)] = 1;
     table[place(&b, 1, 4, 2)] = table[place(&b, 1, 4, 3)] = 0;
-    check_case('B', &b, (const uint8_t[]){0, 1, 1, 0, 1, 1, 0, 1, 1, 255, 255, 255});
+    check_case('B', &b, (const uint8_t[]){1, 1, 1, 1, 1, 1, 1, 1, 1, 255, 255, 255});
     memset(table, 255, sizeof table);
     for (int k = 0; k < 5; k++) {
         table[place(&c, told[k], 1, 2)] = 0;

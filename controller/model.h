@@ -1,8 +1,8 @@
 /*
  * The station's calls and the writer's written once more, in C from documents
- * 01 and 02 (Ticket 1), for the tests: the judgement, the steps of a station
- * that is accepted, and the sheet that is written. Shares no code with the
- * library.
+ * 01 and 02 (Tickets 1 and 2), for the tests: the judgement, the steps of a
+ * station that is accepted, and the sheet that is written. Shares no code with
+ * the library.
  */
 #ifndef MODEL_H
 #define MODEL_H
@@ -98,10 +98,16 @@ static inline int king_of(int round)
     return round > 1 && round % 3 == 1 ? (round - 1) / 3 : 0;
 }
 
-/* "a byte other than 0 or 1 is read as 0" */
-static inline int bit_or_0(uint8_t byte)
+/* In round 1 "a byte other than 0 or 1 is read as 0". */
+static inline int senders_bit(uint8_t byte)
 {
     return byte == 1 ? 1 : 0;
+}
+
+/* "a king's unreadable ballot leaves a grade 0 station with its own y" */
+static inline int kings_bit(uint8_t byte, int y)
+{
+    return byte <= 1 ? byte : y;
 }
 
 static inline int ballot_of(const struct call *c)
@@ -113,12 +119,13 @@ static inline int ballot_of(const struct call *c)
     return c->round % 3 == 2 ? c->x : c->z;
 }
 
-/* Steps 1 and 2: z. */
+/* Steps 1 and 2: z. "In the first round of an exchange a byte other than 0 or 1
+   now counts for neither value": it equals no x. */
 static inline void first_row(struct call *c)
 {
     int same = 0;
     for (int i = 0; i < c->n; i++)
-        if (bit_or_0(c->row[i]) == c->x)
+        if (c->row[i] == c->x)
             same++;
     c->z = same >= c->n - c->T ? c->x : 2;
 }
@@ -140,13 +147,13 @@ static inline void second_row(struct call *c)
 static inline void take_row(struct call *c)
 {
     if (c->round == 1)
-        c->x = bit_or_0(c->row[c->sender - 1]);
+        c->x = senders_bit(c->row[c->sender - 1]);
     else if (c->round % 3 == 2)
         first_row(c);
     else if (c->round % 3 == 0)
         second_row(c);
     else if (c->grade == 0)
-        c->x = bit_or_0(c->row[king_of(c->round) - 1]);
+        c->x = kings_bit(c->row[king_of(c->round) - 1], c->x);
     c->round++;
 }
 

@@ -1,8 +1,8 @@
 /*
  * The order of parameters, and of a lent station's fields, as C sees it. Each
- * call has examples with the answers that document 01 gives. For every two
+ * call has examples with the answers that the documents give. For every two
  * parameters of one type there is an example whose answer changes when the two
- * are exchanged: the program exchanges them and looks. Where document 01 treats
+ * are exchanged: the program exchanges them and looks. Where the documents treat
  * two of them alike, exchanging them must never change an answer.
  */
 #define _DEFAULT_SOURCE
@@ -152,12 +152,12 @@ static const uint8_t b_read[] = {TO_ALL(255), TO_ALL(255), TO_ALL(255), LIAR, FI
 static const uint8_t b_table[] = {TO_ALL(9), TO_ALL(9), TO_ALL(9), LIAR, FIVE(NO_EFFECT)};
 /* Its header with another first index: written with that table, it is the sheet. */
 static const uint8_t b_header[] = {4, 0, 1, 4, 0, 0, 77, 88, 8, 0, 0, 0};
-/* x is 1, 0, 0; z blank, 0, 0; two zeros are grade 0, y 0; the king, station 1,
-   sends 0; then three zeros are grade 1. */
+/* x is 1, 0, 0, and silence counts for neither: every z is blank, y 1 with grade
+   0; the king, station 1, sends 1; then three ones are grade 1. */
 static const uint8_t b_log[] = {TO_ALL(255), TO_ALL(255), TO_ALL(255), LIAR, ROUND(1, 0, 0, 255),
-                                ROUND(2, 0, 0, 255), ROUND(0, 255, 255, 255), ROUND(0, 0, 0, 255),
-                                ROUND(0, 0, 0, 255)};
-static const uint8_t b_outcomes[] = {0, 1, 1, 0, 1, 1, 0, 1, 1, 255, 255, 255};
+                                ROUND(2, 2, 2, 255), ROUND(1, 255, 255, 255), ROUND(1, 1, 1, 255),
+                                ROUND(1, 1, 1, 255)};
+static const uint8_t b_outcomes[] = {1, 1, 1, 1, 1, 1, 1, 1, 1, 255, 255, 255};
 
 /* The same line, none bad, station 3 sends a one. */
 static const uint8_t good_table[] = {NO_EFFECT, FIVE(NO_EFFECT)};
@@ -168,7 +168,7 @@ static const uint8_t good_outcomes[] = {1, 2, 0, 1, 2, 0, 1, 2, 0, 1, 2, 0};
 /* Case B's first exchange, had alone. */
 static const uint8_t inputs[] = {1, 0, 0, 9};
 static const uint8_t exchange_table[] = {NO_EFFECT, NO_EFFECT};
-static const uint8_t exchange_outcomes[] = {0, 0, 1, 0, 0, 1, 0, 0, 1, 255, 255, 255};
+static const uint8_t exchange_outcomes[] = {1, 0, 1, 1, 0, 1, 1, 0, 1, 255, 255, 255};
 
 /* Rows of a line of 16 with t 2 and T 5: n-T is 11, n-t is 14. */
 static const uint8_t from_9[16] = {0, 0, 0, 0, 0, 0, 0, 0, 1, 0, 0, 0, 0, 0, 0, 0};

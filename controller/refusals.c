@@ -1,6 +1,6 @@
 /*
  * Every refusal of the station's calls through C, alone and in pairs; calls at
- * the edges and by lot against document 01 written once more (model.h); rows
+ * the edges and by lot against the documents written once more (model.h); rows
  * between pages that can't be touched. Every row is given to the lent station
  * too, which stands at the edges of such a page.
  */

@@ -59,13 +59,14 @@
 
 /*
  * Document 01 with requests 1 to N is version 1.N. With the minor number the
- * layout of the state, of the struct or of an answer may change: a state kept
- * by one version is never handed to another. The libraries don't tell theirs:
- * take them and the headers from one version.
+ * layout of the state, of the struct or of an answer may change, and what a
+ * station makes of its rows: a state kept by one version is never handed to
+ * another, and all stations of a line have one version. The libraries don't
+ * tell theirs: take them and the headers from one version.
  */
 #define VEMBOPU_VERSION_MAJOR 1
-#define VEMBOPU_VERSION_MINOR 1
-#define VEMBOPU_VERSION "1.1"
+#define VEMBOPU_VERSION_MINOR 2
+#define VEMBOPU_VERSION "1.2"
 
 #ifdef __cplusplus
 extern "C" {
@@ -177,9 +178,13 @@ uint64_t vembopu_ballot(uint8_t n, uint8_t t, uint8_t upper, uint8_t sender,
  *          came. row[own - 1] is the ballot that vembopu_ballot gave in this
  *          round, 255 where this station doesn't speak. That isn't checked: a
  *          station that is handed another byte there is none that the promises
- *          speak of, and counts as bad. Any byte may stand in a row: in the
- *          second round of an exchange one other than 0 or 1 is read as blank,
- *          in every other round as 0. Only read, and only during the call.
+ *          speak of, and counts as bad. Any byte may stand in a row. In both
+ *          rounds of an exchange one other than 0 or 1 counts for neither
+ *          value. In round 1 only the sender's byte matters, and one other than
+ *          0 or 1 is read as 0. In round 3p + 1, after an exchange, only that
+ *          of station p matters, the king, and at grade 0 only: 0 or 1 is the
+ *          new value, any other leaves the station with the exchange's. The row
+ *          is only read, and only during the call.
  * row_len  the number of bytes at row, which nobody writes during the call. Any
  *          other number than n is refused by 8. row may be NULL only if row_len
  *          is 0.
