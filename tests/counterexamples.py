@@ -22,10 +22,13 @@ def edited(**change):
 EDITED = {
     "thresholds_exchanged": edited(grade=lambda n, t, T, c: 2 if c >= n - T else 1 if c >= n - t else 0),
     "flag_at_grade_0_only": edited(flag=lambda g: 1 if g < 1 else 0),
+    "silence_counts_for_0": edited(read_first=lambda b: b if b <= 1 else 0),
     "z_kept_with_fewer": edited(keeps=lambda n, T, count: count + 1 >= n - T),
     "blank_is_zero": edited(read_second=lambda b: b if b <= 1 else 0),
     "one_phase_less": edited(phases=lambda t: t),
     "king_obeyed_at_grade_1": edited(obeys=lambda g: g <= 1),
+    "king_read_as_0": edited(read_king=lambda y, b: b if b <= 1 else 0),
+    "x_kept_at_grade_0": edited(left_with=lambda x, y, g: x if g == 0 else y),
     "king_sends_x": edited(kings_ballot=lambda x, y: x),
     "good_sender_from_table": edited(takes_table=lambda bad: not bad),
     "done_a_row_early": edited(rows_to_done=lambda rounds: rounds - 1),
@@ -84,6 +87,16 @@ def broken_exchange(rules, run, rng):
     return None
 
 
+def broken_reading(rules, run):
+    """What a byte counts for in the first round of an exchange, and what one from the king leaves."""
+    row = run.table[:run.n]
+    if any([rules.read_first(b) for b in row].count(v) != row.count(v) for v in (0, 1)):
+        return "First-counts"
+    if any(rules.read_king(y, b) != (b if b <= 1 else y) for y in (0, 1) for b in row):
+        return "Kings-word"
+    return None
+
+
 def broken_station(rules, run, said, outcomes):
     """Demand 2, its first sentence, the log's layout, and who is silent in round 1."""
     log = log_of(rules, run, said)
@@ -114,7 +127,8 @@ def demand_3(rules, run, rng):
 
 def any_theorem(rules, run, rng):
     said, outcomes = broadcast(rules, run)
-    return broken_guarantee(run, outcomes) or broken_exchange(rules, run, rng) or broken_station(rules, run, said, outcomes)
+    return (broken_guarantee(run, outcomes) or broken_exchange(rules, run, rng) or broken_reading(rules, run)
+            or broken_station(rules, run, said, outcomes))
 
 
 def search(rules, broken, tries):

@@ -8,12 +8,17 @@ BLANK, SILENCE = 2, 255
 class Rules:
     """The documents' steps. An edit replaces one of them."""
 
+    # "In the first round of an exchange a byte other than 0 or 1 now counts for neither value"
+    read_first = staticmethod(lambda b: b if b <= 1 else BLANK)
     keeps = staticmethod(lambda n, T, count: count >= n - T)
     read_second = staticmethod(lambda b: b if b <= 1 else BLANK)
     grade = staticmethod(lambda n, t, T, c: 2 if c >= n - t else 1 if c >= n - T else 0)
     flag = staticmethod(lambda g: 1 if g < 2 else 0)
     flag_alone = staticmethod(lambda y, g: 1 if g < 2 else 0)
     obeys = staticmethod(lambda g: g == 0)
+    # "a king's unreadable ballot leaves a grade 0 station with its own y"
+    read_king = staticmethod(lambda y, b: b if b <= 1 else y)
+    left_with = staticmethod(lambda x, y, g: y)
     kings_ballot = staticmethod(lambda x, y: y)
     phases = staticmethod(lambda t: t + 1)
     takes_table = staticmethod(lambda bad: bad)
@@ -28,11 +33,6 @@ class Rules:
 def read_sender(b):
     """In round 1 "a byte other than 0 or 1 is read as 0"."""
     return b if b <= 1 else 0
-
-
-def read_king(b, y):
-    """What a station takes at grade 0: "a king's unreadable ballot leaves a grade 0 station with its own y"."""
-    return b if b <= 1 else y
 
 
 class Run:
@@ -57,8 +57,9 @@ def sends(rules, run, r, i, j, b):
 
 
 def first_step(rules, run, row, x):
-    """Step 2: z. "In the first round of an exchange a byte other than 0 or 1 now counts for neither value": it equals no x."""
-    return x if rules.keeps(run.n, run.T, row.count(x)) else BLANK
+    """Step 2: z."""
+    read = [rules.read_first(b) for b in row]
+    return x if rules.keeps(run.n, run.T, read.count(x)) else BLANK
 
 
 def second_step(rules, run, row):
@@ -93,7 +94,8 @@ def broadcast(rules, run):
         said[r + 2] = [rules.kings_ballot(x[i], y[i]) if i == p else SILENCE for i in range(n)]
         if p < rules.phases(run.t):
             king = [sends(rules, run, r + 2, p, j, said[r + 2][p]) for j in range(n)]
-            x = [read_king(king[j], y[j]) if rules.obeys(grade[j]) else y[j] for j in range(n)]
+            y = [rules.left_with(x[j], y[j], grade[j]) for j in range(n)]
+            x = [rules.read_king(y[j], king[j]) if rules.obeys(grade[j]) else y[j] for j in range(n)]
     return said, [rules.bad_outcome if run.bad[j] else (y[j], grade[j], rules.flag(grade[j])) for j in range(n)]
 
 
@@ -131,7 +133,7 @@ class Station:
         elif self.round % 3 == 0:
             self.value, self.grade, _ = second_step(rules, run, row)
         elif rules.obeys(self.grade):
-            self.value = read_king(row[self.round // 3 - 1], self.value)
+            self.value = rules.read_king(self.value, row[self.round // 3 - 1])
         self.round += 1
 
     def result(self):
