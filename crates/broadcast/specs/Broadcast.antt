@@ -1,4 +1,4 @@
--- The broadcast with extended validity (document 01, "The broadcast"; source 001, Protocol 2 with document 01's kings and phases).
+-- The broadcast with extended validity (document 01, "The broadcast"; document 02, request 2; source 001, Protocol 2 with document 01's kings and phases).
 use Prim.Native.Nat.{ℕ, zero, suc, _+_, _-_, _*_, _/_, _%_}
 use mathlib.Core.Bool.{Bool, true}
 use lib.Dec.{eqb}

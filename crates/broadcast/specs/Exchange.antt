@@ -1,4 +1,4 @@
--- The graded exchange (document 01, "The graded exchange"; source 001, Protocol 1).
+-- The graded exchange (document 01, "The graded exchange"; document 02, request 2; source 001, Protocol 1).
 use Prim.Native.Nat.{ℕ, _+_, _-_}
 use mathlib.Core.Bool.{Bool}
 use lib.Dec.{leb, ltb, eqb}
@@ -15,7 +15,7 @@ Row = ℕ → ℕ
 unfoldable pub tally : (ℕ → ℕ) → ℕ → ℕ → Row → ℕ
 tally read n v row = count n (λ i. eqb (read (row i)) v)
 
--- step 1 (001: 2): how many ballots of the first round equal v
+-- step 1 (001: 2): how many ballots of the first round equal v, 0 or 1, and how many count for neither value (v = blank)
 unfoldable pub firsts : ℕ → ℕ → Row → ℕ
 firsts n v row = tally read-first n v row
 
