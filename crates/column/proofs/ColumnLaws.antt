@@ -12,7 +12,7 @@ use lib.Seq.{getD-set-other}
 use Rattle.line.specs.Count.{if_then_else_, count}
 use Rattle.line.specs.Line.{has-round}
 use Rattle.line.specs.Writing.{Each}
-use Rattle.line.proofs.CountLaws.{if-true, if-false, count-zero, count-le, count-hit, count-miss}
+use Rattle.line.proofs.CountLaws.{if-true, count-zero, count-le, count-hit, count-miss}
 use Rattle.column.specs.Column.{column, counted, count-of, sent-by, each-of, byte-to, hit, more, AtMost, Rest}
 
 pub rest-all : (l : List ℕ) → Rest 0 l l

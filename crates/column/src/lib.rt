@@ -39,8 +39,8 @@ fn add_row(counts: &mut [u8; 32], row: &[u8; 32], wanted: &[u8; 32])
     }
 }
 
-// How many of a round's bytes to each receiver are the one wanted of it, where every row has 32 bytes from its start on. Those beyond its n are of no receiver: a block of a fixed
-// length is added at once.
+// How many of a round's bytes to each receiver are the one wanted of it, where every row has 32 bytes from its start on. Those beyond its n are of no receiver: a
+// block of a fixed length is added at once.
 fn count_wide(bytes: &[u8], start: usize, n: usize, wanted: &[u8; 32]) -> [u8; 32]
     requires { ⌜ (n ≤ 32) × (start + n * n + (32 - n) ≤ length (now bytes)) ⌝ }
     ensures { λ r. ⌜ Each n r (counted (now (bytes .entry)) start n (each-of (now (wanted .entry))) n) ⌝ }
@@ -97,7 +97,8 @@ fn count_all(bytes: &[u8], start: usize, n: usize, wanted: &[u8; 32]) -> [u8; 32
     }
 }
 
-// How many bytes to each receiver are the one wanted of it, in the round that starts at `start`; 0 where the bytes have no such round. Places beyond n are of no receiver, and open.
+// How many bytes to each receiver are the one wanted of it, in the round that starts at `start`; 0 where the bytes have no such round. Places beyond n are of no
+// receiver, and open.
 pub fn count(line: Line, bytes: &[u8], start: usize, wanted: &[u8; 32]) -> [u8; 32]
     ensures { λ r. ⌜ Each (line .n) r (count-of (line .n) (now (bytes .entry)) start (each-of (now (wanted .entry)))) ⌝ }
 {

@@ -13,7 +13,7 @@ use Rattle.line.specs.Ballot.{blank}
 use Rattle.line.proofs.CountLaws.{le-or-lt}
 use Rattle.line.specs.Line.{has-round}
 use Rattle.line.proofs.WritingLaws.{each-fewer}
-use Rattle.broadcast.specs.Exchange.{Row, firsts, seconds, z-from, z-of, y-from, y-of, for-y, grade-of}
+use Rattle.broadcast.specs.Exchange.{Row, seconds, z-from, z-of, y-from, y-of, for-y, grade-of}
 use Rattle.broadcast.proofs.TallyLaws.{first-bytes, firsts-else, blanks-for-neither, z-from-means, for-y-is}
 use Rattle.column.specs.Column.{column, each-of, counted, count-of}
 use Rattle.column.proofs.ColumnLaws.{count-there}

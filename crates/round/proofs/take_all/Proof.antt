@@ -1,7 +1,6 @@
 -- `take_all` meets its contract, part by part.
 use borrow.Author.Needs.{needs}
-use Prim.Native.Nat.{_≤_, _<_}
-use mathlib.Core.Path.{_≡_}
+use Prim.Native.Nat.{_<_}
 use lib.ListN.{length, getD}
 use borrow.Author.Tests.{ltb-true}
 use Rattle.line.specs.Writing.{Each}
