@@ -157,51 +157,47 @@ fn speaks(header: &Header, line: &Line, round: u8, station: u8) -> bool {
     }
 }
 
-/// With both tables the good stations send the same and end with the same outcomes.
-fn same_good_stations(header: &Header, table: &[u8], other: &[u8]) {
-    let ((log, outcomes), (other_log, other_outcomes)) = (run(header, table), run(header, other));
-    assert_eq!(outcomes, other_outcomes);
-    let n = usize::from(header.n);
-    for (place, (byte, other)) in log.iter().zip(&other_log).enumerate() {
-        let from = (place / n % n + 1) as u8;
-        assert!(header.marks.bad(from) || byte == other);
+/// Tables drawn by lot, each with another that is made of it: with both the good stations send the same and end with
+/// the same outcomes.
+fn same_effect(seed: u64, another: impl Fn(&mut Lot, &Header, &Line, &[u8]) -> Vec<u8>) {
+    let mut lot = Lot(seed);
+    for _ in 0..3_000 {
+        let header = lot.header(7);
+        let line = header.judge().unwrap();
+        let table = lot.table(&line);
+        let other = another(&mut lot, &header, &line, &table);
+        let ((log, outcomes), (other_log, other_outcomes)) = (run(&header, &table), run(&header, &other));
+        assert_eq!(outcomes, other_outcomes);
+        for (place, (byte, other)) in log.iter().zip(&other_log).enumerate() {
+            let from = (place / line.n() % line.n() + 1) as u8;
+            assert!(header.marks.bad(from) || byte == other);
+        }
     }
 }
 
 /// Table bytes of good senders, and of bad ones that should not speak, have no effect.
 #[test]
 fn what_has_no_effect() {
-    let mut lot = Lot(13);
-    for _ in 0..3_000 {
-        let header = lot.header(7);
-        let line = header.judge().unwrap();
-        let table = lot.table(&line);
-        let mut other = table.clone();
+    same_effect(13, |lot, header, line, table| {
+        let mut other = table.to_vec();
         for round in 1..=line.rounds() {
             for from in line.stations() {
-                if !header.marks.bad(from) || !speaks(&header, &line, round, from) {
+                if !header.marks.bad(from) || !speaks(header, line, round, from) {
                     line.stations().for_each(|to| other[line.place(round, from, to)] = lot.byte());
                 }
             }
         }
-        same_good_stations(&header, &table, &other);
-    }
+        other
+    });
 }
 
 /// Which byte other than 0 and 1 stands in a table has no effect: blank, garbled or silence.
 #[test]
 fn foreign_bytes_are_alike() {
-    let mut lot = Lot(16);
-    for _ in 0..3_000 {
-        let header = lot.header(7);
-        let line = header.judge().unwrap();
-        let table = lot.table(&line);
-        let other: Vec<u8> = table
-            .iter()
-            .map(|&byte| if byte <= 1 { byte } else { lot.pick(&[2, 3, 77, 254, 255]) })
-            .collect();
-        same_good_stations(&header, &table, &other);
-    }
+    same_effect(16, |lot, _, _, table| {
+        let mut foreign = |byte| if byte <= 1 { byte } else { lot.pick(&[2, 3, 77, 254, 255]) };
+        table.iter().map(|&byte| foreign(byte)).collect()
+    });
 }
 
 /// The exchange had alone is what single stations make of rounds 2 and 3.

@@ -4,6 +4,8 @@ use layout::Header;
 use line::Line;
 use sheet::Reading;
 
+mod print;
+
 // The largest log, where a byte that is left as it was shows, being 7.
 fn sevens() -> [u8; 36864] {
     [7; 36864]
@@ -17,12 +19,12 @@ fn decide(h: Header, table: &[u8], log: &mut [u8], outcomes: &mut [u8]) {
         upper: h.upper,
     };
     let verdict = rehearsal::rehearse(line, h.sender, h.value, h.marks, table, log, outcomes);
-    print_run::rehearsal(verdict.code(), log, outcomes);
+    print::rehearsal(verdict.code(), log, outcomes);
 }
 
 // Lends a log of the table's length and the outcomes of n stations.
 fn accepted(h: Header, table: &[u8], lent: u16) {
-    print_run::header(h, table);
+    print::header(h, table);
     let mut log = sevens();
     let a = io::count(lent as isize, &log);
     let mut outcomes = sevens();
@@ -34,10 +36,10 @@ fn accepted(h: Header, table: &[u8], lent: u16) {
 pub fn run(k: u64, sheet: &[u8], lent: u16, table: &mut [u8])
     ensures { λ r. ⌜ Leaves (now (sheet .entry)) (now (table .entry)) (now (table .exit)) ⌝ }
 {
-    print_run::name(k);
+    print::name(k);
     let reading = sheet::read(sheet, table);
     match reading {
         Reading::Accepted(h) => accepted(h, table, lent),
-        Reading::Refused(c) => print_run::refusal(c.number(), table),
+        Reading::Refused(c) => print::refusal(c.number(), table),
     }
 }

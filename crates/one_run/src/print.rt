@@ -9,7 +9,7 @@ fn number(n: u64) {
 }
 
 // The run's own number.
-pub fn name(k: u64) {
+pub(crate) fn name(k: u64) {
     io::write_all(STDOUT_FILENO, b"run");
     number(k);
     io::write_all(STDOUT_FILENO, b":");
@@ -22,7 +22,7 @@ fn table(table: &[u8]) {
 }
 
 // An accepted sheet: n, t, T, sender, value and marks.
-pub fn header(h: Header, lent: &[u8]) {
+pub(crate) fn header(h: Header, lent: &[u8]) {
     number(h.n as u64);
     number(h.t as u64);
     number(h.upper as u64);
@@ -33,7 +33,7 @@ pub fn header(h: Header, lent: &[u8]) {
 }
 
 // A refused sheet.
-pub fn refusal(cause: u8, lent: &[u8]) {
+pub(crate) fn refusal(cause: u8, lent: &[u8]) {
     io::write_all(STDOUT_FILENO, b" refused");
     number(cause as u64);
     table(lent);
@@ -41,7 +41,7 @@ pub fn refusal(cause: u8, lent: &[u8]) {
 }
 
 // The rehearsal's answer, by its code, the bytes of the outcomes, and the checksums of the log and of the outcomes.
-pub fn rehearsal(code: u8, log: &[u8], outcomes: &[u8]) {
+pub(crate) fn rehearsal(code: u8, log: &[u8], outcomes: &[u8]) {
     if code == 0 {
         io::write_all(STDOUT_FILENO, b"; accepted:");
     } else {
