@@ -1,15 +1,15 @@
 -- Laws of a choice, of an order's two cases, and of counting. Assumes nothing.
 use Prim.Native.Nat.{ℕ, zero, suc, _+_, _≤_, _<_}
-use mathlib.Core.Path.{_≡_, refl, sym}
-use mathlib.Core.Bool.{Bool, true, false, not, true≢false}
+use mathlib.Core.Path.{_≡_, refl, sym, _∙_}
+use mathlib.Core.Bool.{Bool, true, false, not, _&&_, true≢false}
 use mathlib.Core.Logic.{_≢_, _⊎_, inl, inr, ⊎-elim}
 use native.Mathlib.Omega.{arith}
 use native.Mathlib.Numerals.{add-one}
 use native.Mathlib.Nat.{le-refl, eq-or-lt-of-le, le-of-suc-le-suc}
 use native.Mathlib.Decide.{le-ind}
-use lib.Dec.{leb}
-use borrow.Author.Tests.{leb-true, leb-false}
-use Rattle.line.specs.Count.{if_then_else_, count}
+use lib.Dec.{leb, eqb}
+use borrow.Author.Tests.{leb-true, leb-false, eqb-true, eqb-false, eq-eqb, ne-eqb}
+use Rattle.line.specs.Count.{if_then_else_, count, all}
 
 pub if-true : {A : Type 0} {b : Bool} (u v : A) → b ≡ true → if b then u else v ≡ u
 if-true u v e = rw e
@@ -152,3 +152,42 @@ witness (suc m) p h = go (p m) refl h (witness m p)
         → (count m p < m → (k : ℕ) × (k < m) × (p k ≡ false)) → (k : ℕ) × (k < suc m) × (p k ≡ false)
     go false e l ih = (m, omega arith, e)
     go true e l ih = let w = ih (omega arith) in (w .0, omega arith, w .2)
+
+-- ---- all
+
+pub both-true : (a b : Bool) → a && b ≡ true → (a ≡ true) × (b ≡ true)
+both-true true b e = (refl, e)
+both-true false b e = absurd (true≢false (sym e))
+
+pub both-hold : (a b : Bool) → a ≡ true → b ≡ true → a && b ≡ true
+both-hold a b e q = rw (e, q)
+
+-- all pass where each does, and only then
+pub all-true : (n : ℕ) (p : ℕ → Bool) → all n p ≡ true → (k : ℕ) → k < n → p k ≡ true
+unfolding all
+all-true zero p e k h = absurd (omega arith)
+all-true (suc n) p e k h =
+    let (a, b) = both-true (p n) (all n p) e in
+    ⊎-elim (λ (r : k ≡ n). rw r a) (λ (r : k < n). all-true n p b k r) (eq-or-lt-of-le (le-of-suc-le-suc h))
+
+pub all-hold : (n : ℕ) (p : ℕ → Bool) → ((k : ℕ) → k < n → p k ≡ true) → all n p ≡ true
+unfolding all
+all-hold zero p h = refl
+all-hold (suc n) p h = both-hold (p n) (all n p) (h n (omega arith)) (all-hold n p (λ k l. h k (omega arith)))
+
+one-more : (a b : ℕ) → eqb (1 + a) (suc b) ≡ eqb a b
+one-more a b = go (eqb a b) refl
+  where
+    go : (c : Bool) → eqb a b ≡ c → eqb (1 + a) (suc b) ≡ c
+    go true e = eq-eqb (1 + a) (suc b) (omega (arith, eqb-true a b e))
+    go false e = ne-eqb (1 + a) (suc b) (λ q. eqb-false a b e (omega arith))
+
+-- all pass where as many do as there are
+pub all-count : (n : ℕ) (p : ℕ → Bool) → eqb (count n p) n ≡ all n p
+unfolding all count
+all-count zero p = refl
+all-count (suc n) p = go (p n) (count-le n p) (all-count n p)
+  where
+    go : (b : Bool) → count n p ≤ n → eqb (count n p) n ≡ all n p → eqb ((if b then 1 else 0) + count n p) (suc n) ≡ b && all n p
+    go true h ih = one-more (count n p) n ∙ ih
+    go false h ih = ne-eqb (0 + count n p) (suc n) (λ e. omega arith)

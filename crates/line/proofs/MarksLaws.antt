@@ -1,17 +1,17 @@
 -- Laws of marks. Assumes nothing.
 use Prim.Native.Nat.{ℕ, zero, suc, _+_, _*_, _/_, _%_, _^_, _≤_, _<_}
-use mathlib.Core.Path.{_≡_, refl, sym}
+use mathlib.Core.Path.{_≡_, refl, sym, ap, _∙_}
 use mathlib.Core.Bool.{Bool, true, false, not}
-use mathlib.Core.Logic.{_⊎_, inl, inr, _↔_}
+use mathlib.Core.Logic.{_⊎_, inl, inr, ⊎-elim, _↔_}
 use native.Mathlib.Omega.{arith}
-use native.Mathlib.Nat.{div-eq-of-lt, le-div-iff-mul-le, lt-of-lt-of-le, lt-of-not-le}
-use lib.Dec.{leb}
-use lib.Pow.{pow-pos, pow-mono, shr-shr}
-use lib.Arith.{bin-ind}
+use native.Mathlib.Nat.{div-eq-of-lt, le-div-iff-mul-le, lt-of-lt-of-le, lt-of-not-le, mod-eq-of-lt, two-pow-succ, eq-or-lt-of-le, le-of-suc-le-suc}
+use lib.Dec.{leb, eqb}
+use lib.Pow.{pow-pos, pow-mono, shr-shr, mod-pow-add}
+use lib.Arith.{bin-ind, digits-lt, digits-div, digits-mod}
 use borrow.Author.Tests.{leb-true, leb-false, le-leb, lt-leb, eq-eqb}
-use Rattle.line.specs.Count.{count}
+use Rattle.line.specs.Count.{if_then_else_, count}
 use Rattle.line.specs.Line.{most-stations}
-use Rattle.line.specs.Marks.{marked, mark-beyond, faults}
+use Rattle.line.specs.Marks.{marked, mark-beyond, faults, marks-of}
 use Rattle.line.proofs.CountLaws.{count-not, count-more}
 
 -- a bit above all that are 1 is no mark
@@ -79,3 +79,65 @@ faults-and-good n bad = omega (arith, count-not n bad)
 pub faults-are-marks : (n marks : ℕ) → n ≤ most-stations → mark-beyond n marks ≡ false
     → faults n (marked marks) ≡ count most-stations (marked marks)
 faults-are-marks n marks h e = sym (count-more n most-stations (marked marks) h (λ k l. beyond-none n marks k e l))
+
+-- ---- a bit as a number
+
+bit-low : (b : Bool) → (if b then 1 else 0) < 2
+bit-low true = omega arith
+bit-low false = omega arith
+
+bit-same : (a b : Bool) → _≡_ {A = ℕ} (if a then 1 else 0) (if b then 1 else 0) → a ≡ b
+bit-same true true e = refl
+bit-same false false e = refl
+bit-same true false e = absurd (omega arith)
+bit-same false true e = absurd (omega arith)
+
+bit-back : (x : ℕ) → x < 2 → (if eqb x 1 then 1 else 0) ≡ x
+bit-back zero h = refl
+bit-back (suc zero) h = refl
+bit-back (suc (suc x)) h = absurd (omega arith)
+
+-- ---- the marks of a test
+
+-- tests that agree below n have the same marks
+pub marks-same : (n : ℕ) (p q : ℕ → Bool) → ((i : ℕ) → i < n → p i ≡ q i) → marks-of n p ≡ marks-of n q
+unfolding marks-of
+marks-same zero p q h = refl
+marks-same (suc n) p q h = rw (h n (omega arith), marks-same n p q (λ i l. h i (omega arith)))
+
+pub marks-below : (n : ℕ) (p : ℕ → Bool) → marks-of n p < 2 ^ n
+unfolding marks-of
+marks-below zero p = omega arith
+marks-below (suc n) p = omega (arith, two-pow-succ n, digits-lt (bit-low (p n)) (marks-below n p))
+
+rebuilt-mod : (n marks : ℕ) → marks-of n (marked marks) ≡ marks % 2 ^ n
+unfolding marks-of marked
+rebuilt-mod zero marks = omega arith
+rebuilt-mod (suc n) marks =
+    let e : suc n ≡ 1 + n = omega arith in
+    rw (rebuilt-mod n marks, bit-back (marks / 2 ^ n % 2) (omega arith), e) (sym (mod-pow-add marks 1 n))
+
+-- marks below 2^n are those of the stations that they mark
+pub rebuilt : (n marks : ℕ) → marks < 2 ^ n → marks-of n (marked marks) ≡ marks
+rebuilt n marks h = rebuilt-mod n marks ∙ mod-eq-of-lt h
+
+-- the same marks come from tests that agree
+pub tests-same : (n : ℕ) (p q : ℕ → Bool) → marks-of n p ≡ marks-of n q → (i : ℕ) → i < n → p i ≡ q i
+unfolding marks-of
+tests-same zero p q e i l = absurd (omega arith)
+tests-same (suc n) p q e i l =
+    let low-p = marks-below n p in
+    let low-q = marks-below n q in
+    let top = sym (digits-div (if p n then 1 else 0) low-p) ∙ ap (λ (m : ℕ). m / 2 ^ n) e ∙ digits-div (if q n then 1 else 0) low-q in
+    let rest = sym (digits-mod (if p n then 1 else 0) low-p) ∙ ap (λ (m : ℕ). m % 2 ^ n) e ∙ digits-mod (if q n then 1 else 0) low-q in
+    ⊎-elim (λ (r : i ≡ n). rw r (bit-same (p n) (q n) top)) (λ (k : i < n). tests-same n p q rest i k)
+    (eq-or-lt-of-le (le-of-suc-le-suc l))
+
+-- who is marked passes
+pub marks-are : (n : ℕ) (p : ℕ → Bool) (i : ℕ) → i < n → marked (marks-of n p) i ≡ p i
+marks-are n p = tests-same n (marked (marks-of n p)) p (rebuilt n (marks-of n p) (marks-below n p))
+
+-- .. which is to say that no mark stands beyond station n
+pub marks-back : (n marks : ℕ) → mark-beyond n marks ≡ false → marks-of n (marked marks) ≡ marks
+unfolding mark-beyond
+marks-back n marks e = rebuilt n marks (leb-false (2 ^ n) marks e)

@@ -1,5 +1,5 @@
 -- The theorems: each statement of specs/Theorems.antt, under its name, and the law that proves it. Assumes nothing.
-use Rattle.line.specs.Theorems.{Faults-and-good, Faults-are-marks, Place-is, Place-steps, Table-bound, Table-reached, Beyond-none, Beyond-some}
+use Rattle.line.specs.Theorems.{Faults-and-good, Faults-are-marks, Place-is, Place-steps, Table-bound, Table-reached, Beyond-none, Beyond-some, Marks-are, Marks-back}
 use Rattle.line.proofs.LineLaws as line
 use Rattle.line.proofs.MarksLaws as marks
 
@@ -26,3 +26,9 @@ beyond-none = marks.beyond-none
 
 pub beyond-some : Beyond-some
 beyond-some = marks.beyond-some
+
+pub marks-are : Marks-are
+marks-are n p = record { each = marks.marks-are n p; below = marks.marks-below n p }
+
+pub marks-back : Marks-back
+marks-back = marks.marks-back

@@ -1,10 +1,10 @@
 -- The statements that proofs/Theorems.antt proves, each under the same name in lower case.
-use Prim.Native.Nat.{ℕ, _+_, _-_, _*_, _≤_}
+use Prim.Native.Nat.{ℕ, _+_, _-_, _*_, _^_, _≤_, _<_}
 use mathlib.Core.Path.{_≡_}
 use mathlib.Core.Bool.{Bool, true, false, not}
 use Rattle.line.specs.Count.{count}
 use Rattle.line.specs.Line.{most-stations, Fits, table-length, place, largest-table}
-use Rattle.line.specs.Marks.{marked, mark-beyond, faults}
+use Rattle.line.specs.Marks.{marked, mark-beyond, faults, marks-of}
 
 -- ---- f
 
@@ -48,3 +48,14 @@ Beyond-none = (n marks i : ℕ) → mark-beyond n marks ≡ false → n ≤ i �
 
 abbrev pub Beyond-some : Type 0
 Beyond-some = (n marks : ℕ) → mark-beyond n marks ≡ true → (i : ℕ) × (n ≤ i) × (marked marks i ≡ true)
+
+-- the marks of a test: bit i is that of station i, no bit beyond station n is 1, and the test of who is marked gives the marks back
+pub record MarksAre (n : ℕ) (p : ℕ → Bool) : Type 0 where
+  pub each : (i : ℕ) → i < n → marked (marks-of n p) i ≡ p i
+  pub below : marks-of n p < 2 ^ n
+
+abbrev pub Marks-are : Type 0
+Marks-are = (n : ℕ) (p : ℕ → Bool) → MarksAre n p
+
+abbrev pub Marks-back : Type 0
+Marks-back = (n marks : ℕ) → mark-beyond n marks ≡ false → marks-of n (marked marks) ≡ marks
