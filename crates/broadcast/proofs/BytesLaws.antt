@@ -10,7 +10,7 @@ use Rattle.line.specs.Count.{if_then_else_}
 use Rattle.line.specs.Line.{Fits, from-0, rounds, table-length, outcomes-length, place}
 use Rattle.line.specs.Marks.{marked}
 use Rattle.line.proofs.CountLaws.{if-true, if-false}
-use Rattle.line.proofs.LineLaws.{place-below, place-round, place-from, place-to}
+use Rattle.line.proofs.LineLaws.{place-in-round, place-below, place-round, place-from, place-to}
 use Rattle.broadcast.specs.Exchange.{Setting, y, grade, flag-of}
 use Rattle.broadcast.specs.Broadcast.{phases, value-of, final-grade, final-flag, y-after, grade-after, first-round, x-after, sent}
 use Rattle.broadcast.specs.Station.{at}
@@ -37,6 +37,11 @@ getD-tabulate (suc m) f (suc k) h = getD-tabulate m (λ i. f (suc i)) k (omega a
 pub at-tabulate : (m : ℕ) (f : ℕ → ℕ) (k : ℕ) → k < m → at (tabulate m f) k ≡ f k
 unfolding at
 at-tabulate = getD-tabulate
+
+-- a byte of round m + 1, by where that round starts
+pub at-in-round : (l : List ℕ) (n m i j : ℕ) → at l (place n (suc m) i j) ≡ getD l (m * (n * n) + i * n + j) 0
+unfolding at
+at-in-round l n m i j = ap (λ (k : ℕ). getD l k 0) (place-in-round n m i j)
 
 pub tabulate-same : (m : ℕ) (f g : ℕ → ℕ) → ((k : ℕ) → k < m → f k ≡ g k) → tabulate m f ≡ tabulate m g
 unfolding tabulate

@@ -1,5 +1,5 @@
 -- Laws of counts by columns. Assumes nothing.
-use Prim.Native.Nat.{ℕ, zero, suc, _+_, _*_, _≤_, _<_}
+use Prim.Native.Nat.{ℕ, _+_, _*_, _≤_, _<_}
 use mathlib.Core.Logic.{_≢_}
 use mathlib.Core.Path.{_≡_, refl, sym, _∙_}
 use mathlib.Core.Bool.{Bool, true, false, _&&_}
@@ -13,6 +13,7 @@ use Rattle.line.specs.Count.{if_then_else_, count}
 use Rattle.line.specs.Line.{has-round}
 use Rattle.line.specs.Writing.{Each}
 use Rattle.line.proofs.CountLaws.{if-true, count-zero, count-le, count-hit, count-miss}
+use Rattle.line.proofs.WritingLaws.{zeros}
 use Rattle.column.specs.Column.{column, counted, count-of, sent-by, each-of, byte-to, hit, more, AtMost, Rest}
 
 pub rest-all : (l : List ℕ) → Rest 0 l l
@@ -86,13 +87,6 @@ pub count-there : (n : ℕ) (bytes : List ℕ) (start : ℕ) (wanted : ℕ → �
     → (j : ℕ) → count-of n bytes start wanted j ≡ counted bytes start n wanted n j
 unfolding count-of
 count-there n bytes start wanted h j = if-true _ _ h
-
--- an array of zeros is 0 everywhere, and past its end
-zeros : (m j : ℕ) → getD {A = ℕ} (replicate m 0) j 0 ≡ 0
-zeros zero zero = refl
-zeros zero (suc j) = refl
-zeros (suc m) zero = refl
-zeros (suc m) (suc j) = zeros m j
 
 pub count-not : (n : ℕ) (bytes : List ℕ) (start : ℕ) (wanted : ℕ → ℕ) → has-round n start (length bytes) ≡ false
     → Each n (replicate 32 0) (count-of n bytes start wanted)

@@ -175,6 +175,12 @@ unfolding all
 all-hold zero p h = refl
 all-hold (suc n) p h = both-hold (p n) (all n p) (h n (omega arith)) (all-hold n p (λ k l. h k (omega arith)))
 
+-- tests that agree below n pass alike
+pub all-same : (n : ℕ) (p q : ℕ → Bool) → ((k : ℕ) → k < n → p k ≡ q k) → all n p ≡ all n q
+unfolding all
+all-same zero p q h = refl
+all-same (suc n) p q h = rw (h n (omega arith), all-same n p q (λ k l. h k (omega arith)))
+
 one-more : (a b : ℕ) → eqb (1 + a) (suc b) ≡ eqb a b
 one-more a b = go (eqb a b) refl
   where

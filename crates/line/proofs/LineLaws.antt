@@ -1,9 +1,9 @@
 -- Laws of the line's lengths and places. Assumes nothing.
-use Prim.Native.Nat.{ℕ, _+_, _-_, _*_, _/_, _%_, _^_, _≤_, _<_}
-use mathlib.Core.Path.{_≡_, refl, sym}
+use Prim.Native.Nat.{ℕ, suc, _+_, _-_, _*_, _/_, _%_, _^_, _≤_, _<_}
+use mathlib.Core.Path.{_≡_, refl, sym, _∙_}
 use mathlib.Core.Bool.{Bool, true, false, _&&_, true≢false}
 use native.Mathlib.Omega.{arith}
-use native.Mathlib.Nat.{add-assoc, zero-add, zero-mul, add-mul, suc-mul, mul-le-mul, mul-le-mul-right, lt-of-le-of-lt}
+use native.Mathlib.Nat.{add-assoc, zero-add, zero-mul, add-mul, suc-mul, mul-assoc, mul-le-mul, mul-le-mul-right, lt-of-le-of-lt}
 use native.Mathlib.Numerals.{add-one}
 use lib.Dec.{T, leb, ltb, lit<}
 use borrow.Author.Tests.{leb-true, leb-false, le-leb, lt-leb}
@@ -54,6 +54,16 @@ place-is n r i j = refl
 pub place-from-start : (n r i j : ℕ) → place n r i j ≡ (r - 1) * n * n + (i * n + j)
 unfolding place
 place-from-start n r i j = rw (add-mul, add-assoc)
+
+-- of round m + 1, whose bytes start after those of m rounds
+pub place-in-round : (n m i j : ℕ) → place n (suc m) i j ≡ m * (n * n) + i * n + j
+place-in-round n m i j =
+    let e : suc m - 1 ≡ m = omega arith in
+    place-from-start n (suc m) i j ∙ rw (e, mul-assoc m n n) (omega arith)
+
+-- .. and are within a run table
+pub round-within : (n t m : ℕ) → m < rounds t → m * (n * n) + n * n ≤ table-length n t
+round-within n t m h = rw mul-assoc (row-within m (n * n) (rounds t) h)
 
 -- a round more, of n rows
 next-block : (q n : ℕ) → (q + 1) * n * n ≡ q * n * n + n * n

@@ -92,3 +92,10 @@ each-turn l F m v h below here i k =
 pub each-fewer : (m n : ℕ) (l : List ℕ) (F : ℕ → ℕ) → n ≤ m → Each m l F → Each n l F
 unfolding Each
 each-fewer m n l F h each j k = each j (omega arith)
+
+-- an array of zeros is 0 everywhere, and past its end
+pub zeros : (m j : ℕ) → getD {A = ℕ} (replicate m 0) j 0 ≡ 0
+zeros zero zero = refl
+zeros zero (suc j) = refl
+zeros (suc m) zero = refl
+zeros (suc m) (suc j) = zeros m j

@@ -1,6 +1,6 @@
 -- The rounds that the rehearsal plays are the run's: by demand 2, single stations on the run's rows send the run's ballots and take the run's
 -- steps. Assumes nothing.
-use Prim.Native.Nat.{ℕ, zero, suc, _+_, _-_, _*_, _/_, _%_, _≤_, _<_}
+use Prim.Native.Nat.{ℕ, suc, _+_, _-_, _*_, _/_, _%_, _≤_, _<_}
 use mathlib.Core.Path.{_≡_, refl, sym, ap, _∙_}
 use mathlib.Core.Bool.{Bool, true, false}
 use mathlib.Core.List.{List}
@@ -8,30 +8,27 @@ use mathlib.Core.Logic.{_⊎_, inl, inr}
 use native.Mathlib.Omega.{arith}
 use native.Mathlib.Numerals.{add-one}
 use native.Mathlib.Nat.{mul-assoc, zero-mul, suc-mul, div-add-mod', div-lt-iff-lt-mul, mod-lt}
-use lib.ListN.{length, getD, replicate, getD-replicate}
+use lib.ListN.{length, getD, replicate}
 use lib.Seq.{ext-getD}
-use borrow.Author.Tests.{lt-ltb}
 use Rattle.line.specs.Count.{if_then_else_}
 use Rattle.line.specs.Line.{from-0, rounds, table-length, outcomes-length, place}
 use Rattle.line.specs.Marks.{marked}
 use Rattle.line.specs.Writing.{over}
 use Rattle.line.proofs.CountLaws.{le-or-lt}
-use Rattle.line.proofs.LineLaws.{table-bound, place-from-start, row-within, round-there}
+use Rattle.line.proofs.LineLaws.{table-bound, round-within, round-there}
 use Rattle.header.specs.Header.{Sound}
 use Rattle.broadcast.specs.Broadcast.{part, value-of, final-grade, final-flag}
-use Rattle.broadcast.specs.Station.{State, opened, ballot, advance, Result, done, at, after}
+use Rattle.broadcast.specs.Station.{State, ballot, Result, done, at, after}
 use Rattle.broadcast.specs.Bytes.{setting, setting-of, Run, log, outcomes, setup, column}
 use Rattle.broadcast.specs.Guarantees.{Good}
 use Rattle.broadcast.specs.Theorems.{value-at, grade-at, Follows, PutTogether}
-use Rattle.broadcast.proofs.PartLaws.{part-sender, part-first, part-second, part-king, first-is, by-parts}
-use Rattle.broadcast.proofs.BytesLaws.{at-tabulate, good-value, good-grade}
+use Rattle.broadcast.proofs.BytesLaws.{at-tabulate, at-in-round, good-value, good-grade}
 use Rattle.broadcast.proofs.Theorems.{log-bytes, done-after-rows, station-follows-run, stations-make-run}
 use Rattle.step.specs.Part.{as-part}
-use Rattle.step.proofs.StepLaws.{told-as, taken-as}
 use Rattle.column.specs.Column as columns
 use Rattle.round.specs.declared.Stations.{Stations}
-use Rattle.round.specs.Round.{setup-at, state-at, said-by, Taken, speaker-within, playable, Plays}
-use Rattle.round.proofs.RoundLaws.{taken-same, played, log-size, log-before, column-is}
+use Rattle.round.specs.Round.{state-at, said-by, speaker-within, playable, Plays}
+use Rattle.round.proofs.RoundLaws.{says-ballot, takes-row, opened-at, speaker-in, played, log-size, log-before, column-is}
 use Rattle.outcome.specs.Outcome.{outcome-at, reach}
 use Rattle.outcome.proofs.OutcomeLaws as outcome
 use Rattle.rehearsal.specs.Rounds.{Playable, Played}
@@ -51,25 +48,10 @@ module _ (R : Run) (bytes₀ : List ℕ) (ready : Playable R bytes₀) where
   together =
       stations-make-run R (header .fits) (header .sender-low) (header .sender-high) (λ _. R .value) refl .log-is-such
 
-  -- ---- places
-
-  -- the place of a ballot of round m + 1
-  place-is : (m i j : ℕ) → place (R .n) (suc m) i j ≡ m * (R .n * R .n) + i * R .n + j
-  place-is m i j =
-      let e : suc m - 1 ≡ m = omega arith in
-      place-from-start (R .n) (suc m) i j ∙ rw (e, mul-assoc m (R .n) (R .n)) (omega arith)
-
-  at-is : (l : List ℕ) (k k′ : ℕ) → k ≡ k′ → at l k ≡ getD l k′ 0
-  unfolding at
-  at-is l k k′ e = ap (λ (q : ℕ). getD l q 0) e
-
-  at-place : (l : List ℕ) (m i j : ℕ) → at l (place (R .n) (suc m) i j) ≡ getD l (m * (R .n * R .n) + i * R .n + j) 0
-  at-place l m i j = at-is l _ _ (place-is m i j)
-
   -- ---- every round can be played
 
   pub room : (m : ℕ) → m < rounds (R .t) → m * (R .n * R .n) + R .n * R .n ≤ table-length (R .n) (R .t)
-  room m h = rw mul-assoc (row-within m (R .n * R .n) (rounds (R .t)) h)
+  room m h = round-within (R .n) (R .t) m h
 
   pub small : table-length (R .n) (R .t) ≤ 36864
   small = table-bound (R .n) (R .t) (R .T) (header .most) (header .fits)
@@ -77,20 +59,14 @@ module _ (R : Run) (bytes₀ : List ℕ) (ready : Playable R bytes₀) where
   pub few-rounds : rounds (R .t) ≤ 36
   few-rounds = omega (arith, header .most, header .fits .order, header .fits .room)
 
-  -- who speaks alone is of the line
-  speaker-in : (r : ℕ) → 1 ≤ r → r ≤ rounds (R .t) → speaker-within (R .n) (from-0 (R .sender)) (as-part (part r)) ≡ true
-  speaker-in =
-      by-parts (λ (r : ℕ). r ≤ rounds (R .t) → speaker-within (R .n) (from-0 (R .sender)) (as-part (part r)) ≡ true)
-      (λ h. rw part-sender (lt-ltb (from-0 (R .sender)) (R .n) (omega (arith, header .sender-low, header .sender-high))))
-      (λ p h. rw (part-first p))
-      (λ p h. rw (part-second p))
-      (λ p h. rw (part-king p) (lt-ltb p (R .n) (omega (arith, first-is p, header .fits .order, header .fits .room))))
+  speaker : (r : ℕ) → 1 ≤ r → r ≤ rounds (R .t) → speaker-within (R .n) (from-0 (R .sender)) (as-part (part r)) ≡ true
+  speaker = speaker-in (R .n) (R .t) (R .T) (from-0 (R .sender)) (header .fits) (omega (arith, header .sender-low, header .sender-high))
 
   can-play : (m : ℕ) → m < rounds (R .t) → (bytes : List ℕ) → length bytes ≡ table-length (R .n) (R .t)
       → playable (R .n) (from-0 (R .sender)) (as-part (part (suc m))) (m * (R .n * R .n)) (length bytes) (length (R .table)) ≡ true
   can-play m h bytes e =
       played (R .n) (from-0 (R .sender)) (as-part (part (suc m))) (m * (R .n * R .n)) (length bytes) (length (R .table))
-      (speaker-in (suc m) (omega arith) (omega arith))
+      (speaker (suc m) (omega arith) (omega arith))
       (round-there (R .n) (m * (R .n * R .n)) (length bytes) (header .most) (omega (arith, room m h)))
       (round-there (R .n) (m * (R .n * R .n)) (length (R .table)) (header .most) (omega (arith, room m h, ready .table-whole)))
 
@@ -104,14 +80,17 @@ module _ (R : Run) (bytes₀ : List ℕ) (ready : Playable R bytes₀) where
     can : playable (R .n) (from-0 (R .sender)) (as-part (part (suc m))) (m * (R .n * R .n)) (length bytes) (length (R .table)) ≡ true
     can = can-play m left bytes (P .log-whole)
 
-    -- a good station says what the run has from it
+    -- a good station is as its automaton is
+    here : (i : ℕ) → i < R .n → marked (R .marks) i ≡ false
+        → state-at s (suc m) i ≡ after (setup R i) (R .value) (column (R .n) (log R) i) m
+    here i h g = rw (add-one m) at (P .stations-are i h g)
+
+    -- and says what the run has from it
     said-is : (i : ℕ) → i < R .n → marked (R .marks) i ≡ false
         → said-by (from-0 (R .sender)) (as-part (part (suc m))) s i
         ≡ ballot (setup R i) (after (setup R i) (R .value) (column (R .n) (log R) i) m)
-    unfolding said-by ballot setup
-    said-is i h g =
-        told-as (from-0 (R .sender)) i (getD (s .value) i 0) (getD (s .z) i 0) (part (suc m))
-        ∙ rw (← add-one m) (ap (ballot (setup R i)) (P .stations-are i h g))
+    unfolding setup
+    said-is i h g = says-ballot (R .n) (R .t) (R .T) (from-0 (R .sender)) s (R .value) m i (column (R .n) (log R) i) (here i h g)
 
     -- what is in station j's column is what the run has in it
     column-sent : (i j : ℕ) → i < R .n → j < R .n
@@ -123,7 +102,7 @@ module _ (R : Run) (bytes₀ : List ℕ) (ready : Playable R bytes₀) where
         go : (b : Bool) → marked (R .marks) i ≡ b
             → (if b then getD (R .table) (m * (R .n * R .n) + i * R .n + j) 0 else said-by (from-0 (R .sender)) (as-part (part (suc m))) s i)
             ≡ at (log R) (place (R .n) (suc m) i j)
-        go true e = sym (together .from-marked (suc m) i j (omega arith) left hi hj e ∙ at-place (R .table) m i j)
+        go true e = sym (together .from-marked (suc m) i j (omega arith) left hi hj e ∙ at-in-round (R .table) (R .n) m i j)
         go false e =
             said-is i hi e
             ∙ follows i hi e .ballots m j left hj
@@ -137,15 +116,10 @@ module _ (R : Run) (bytes₀ : List ℕ) (ready : Playable R bytes₀) where
 
     stepped : (j : ℕ) → j < R .n → marked (R .marks) j ≡ false
         → state-at s′ (suc m + 1) j ≡ after (setup R j) (R .value) (column (R .n) (log R) j) (suc m)
-    unfolding Taken advance after setup
+    unfolding setup
     stepped j h g =
-        let c = setup-at (R .n) (R .t) (R .T) (from-0 (R .sender)) j in
-        let row = columns.column bytes′ (m * (R .n * R .n)) (R .n) j in
-        let row′ = at (column (R .n) (log R) j (suc m)) in
-        Q .takes can (suc m) j h
-        ∙ taken-as c (state-at s (suc m) j) row (part (suc m))
-        ∙ taken-same c (state-at s (suc m) j) row row′ (λ i l. row-is j h i l) (part (suc m)) (speaker-in (suc m) (omega arith) (omega arith))
-        ∙ ap (λ (st : State). advance c st row′) (rw (add-one m) at (P .stations-are j h g))
+        takes-row (R .n) (R .t) (R .T) (from-0 (R .sender)) s (R .value) m j (column (R .n) (log R) j) (here j h g)
+        bytes′ (m * (R .n * R .n)) s′ (Q .takes can) h (speaker (suc m) (omega arith) (omega arith)) (row-is j h)
 
     -- a byte of the round just played
     written : (k : ℕ) → k < R .n * R .n → getD bytes′ (m * (R .n * R .n) + k) 0 ≡ getD (log R) (m * (R .n * R .n) + k) 0
@@ -155,7 +129,7 @@ module _ (R : Run) (bytes₀ : List ℕ) (ready : Playable R bytes₀) where
         let i : k / R .n < R .n = div-lt-iff-lt-mul pos .1 h in
         let j : k % R .n < R .n = mod-lt k pos in
         let e : m * (R .n * R .n) + k / R .n * R .n + k % R .n ≡ m * (R .n * R .n) + k = omega (arith, div-add-mod' k (R .n)) in
-        rw e at (column-sent (k / R .n) (k % R .n) i j ∙ at-place (log R) m (k / R .n) (k % R .n))
+        rw e at (column-sent (k / R .n) (k % R .n) i j ∙ at-in-round (log R) (R .n) m (k / R .n) (k % R .n))
 
     pub round-played : Played R (suc m) s′ bytes′
     round-played = record {
@@ -176,11 +150,10 @@ module _ (R : Run) (bytes₀ : List ℕ) (ready : Playable R bytes₀) where
   -- ---- before the first round
 
   pub opened-played : Played R 0 (record { value = replicate 32 (R .value); z = replicate 32 2; grade = replicate 32 0 }) bytes₀
-  unfolding after opened
+  unfolding setup
   opened-played = record {
     stations-are = λ i h g.
-        let b : i < 32 = omega (arith, header .most) in
-        rw (getD-replicate 32 i (R .value) 0 b, getD-replicate {A = ℕ} 32 i 2 0 b, getD-replicate {A = ℕ} 32 i 0 0 b);
+        opened-at (R .n) (R .t) (R .T) (from-0 (R .sender)) (R .value) i (column (R .n) (log R) i) (omega (arith, header .most));
     log-has = λ k l. absurd (omega (arith, zero-mul (R .n * R .n)));
     log-whole = ready .log-whole;
   }

@@ -6,12 +6,12 @@ use mathlib.Core.Logic.{⊎-elim}
 use mathlib.Core.List.{List}
 use native.Mathlib.Omega.{arith}
 use lib.Dec.{eqb}
-use borrow.Author.Tests.{ltb-true, lt-leb}
+use borrow.Author.Tests.{ltb-true, lt-ltb, lt-leb}
 use lib.ListN.{length, getD, replicate, getD-replicate}
 use Rattle.line.specs.Count.{if_then_else_, count}
 use Rattle.line.specs.Ballot.{blank}
 use Rattle.line.proofs.CountLaws.{le-or-lt}
-use Rattle.line.specs.Line.{has-round}
+use Rattle.line.specs.Line.{Fits, rounds, has-round}
 use Rattle.line.proofs.WritingLaws.{each-fewer}
 use Rattle.broadcast.specs.Exchange.{Row, seconds, z-from, z-of, y-from, y-of, for-y, grade-of}
 use Rattle.broadcast.proofs.TallyLaws.{first-bytes, firsts-else, blanks-for-neither, z-from-means, for-y-is}
@@ -21,16 +21,18 @@ use Rattle.line.specs.Writing.{Each}
 use Rattle.broadcast.specs.Bytes.{tabulate}
 use Rattle.broadcast.proofs.BytesLaws.{getD-tabulate}
 use Rattle.broadcast.specs.Broadcast as broadcast
-use Rattle.broadcast.specs.Station.{Setup, State, taken}
+use Rattle.broadcast.specs.Station.{Setup, State, opened, ballot, taken, advance, at, after}
 use Rattle.broadcast.proofs.RowLaws.{seconds-same, z-same, y-same}
+use Rattle.broadcast.proofs.PartLaws.{part-sender, part-first, part-second, part-king, first-is, by-parts}
 use Rattle.step.specs.Part.{as-part}
+use Rattle.step.proofs.StepLaws.{told-as, taken-as}
 use Rattle.step.specs.declared.Part.{Part}
 use Rattle.post.specs.Posted.{posted}
 use Rattle.line.specs.Marks.{marked}
 use Rattle.post.proofs.PostLaws.{posted-as, posted-at, posted-before, posted-length}
 use Rattle.stations.specs.Counts.{votes-for}
 use Rattle.round.specs.declared.Stations.{Stations}
-use Rattle.round.specs.Round.{said-by, Taken, speaker-within, playable, Plays}
+use Rattle.round.specs.Round.{setup-at, state-at, said-by, Taken, speaker-within, takable, Takes, playable, Plays}
 
 -- a line of at most 32 has all its stations in an array
 pub all-of : (n : ℕ) (l : List ℕ) (F : ℕ → ℕ) → n ≤ 32 → Each 32 l F → Each n l F
@@ -97,6 +99,69 @@ taken-same c s row row′ same (broadcast.first-of p) h = rw (z-same (c .n) row 
 taken-same c s row row′ same (broadcast.second-of p) h =
     rw (y-same (c .n) row row′ same, seconds-same (c .n) row row′ same (y-of (c .n) row′))
 taken-same c s row row′ same (broadcast.from-king p) h = rw (same p (ltb-true p (c .n) h))
+
+-- ---- a station that is as its automaton is after m rows
+
+module _ (n t T sender : ℕ) (s : Stations) (v m i : ℕ) (rows : ℕ → List ℕ) (here : state-at s (suc m) i ≡ after (setup-at n t T sender i) v rows m) where
+  -- says its automaton's ballot
+  pub says-ballot : said-by sender (as-part (broadcast.part (suc m))) s i ≡ ballot (setup-at n t T sender i) (after (setup-at n t T sender i) v rows m)
+  unfolding said-by ballot
+  says-ballot =
+      told-as sender i (getD (s .value) i 0) (getD (s .z) i 0) (broadcast.part (suc m)) ∙ ap (ballot (setup-at n t T sender i)) here
+
+  -- and takes its row as it does
+  pub takes-row : (bytes : List ℕ) (start : ℕ) (s′ : Stations) → Taken n t T sender (as-part (broadcast.part (suc m))) s bytes start s′ → i < n
+      → speaker-within n sender (as-part (broadcast.part (suc m))) ≡ true → ((k : ℕ) → k < n → column bytes start n i k ≡ at (rows (suc m)) k)
+      → state-at s′ (suc m + 1) i ≡ after (setup-at n t T sender i) v rows (suc m)
+  unfolding Taken advance after
+  takes-row bytes start s′ takes h speaker row-is =
+      let c = setup-at n t T sender i in
+      takes (suc m) i h
+      ∙ taken-as c (state-at s (suc m) i) (column bytes start n i) (broadcast.part (suc m))
+      ∙ taken-same c (state-at s (suc m) i) (column bytes start n i) (at (rows (suc m))) row-is (broadcast.part (suc m)) speaker
+      ∙ ap (λ (st : State). advance c st (at (rows (suc m)))) here
+
+-- before the first
+pub opened-at : (n t T sender v i : ℕ) (rows : ℕ → List ℕ) → i < 32
+    → state-at (record { value = replicate 32 v; z = replicate 32 blank; grade = replicate 32 0 }) 1 i ≡ after (setup-at n t T sender i) v rows 0
+unfolding after opened
+opened-at n t T sender v i rows h =
+    rw (getD-replicate 32 i v 0 h, getD-replicate {A = ℕ} 32 i blank 0 h, getD-replicate {A = ℕ} 32 i 0 0 h)
+
+-- who speaks alone is of the line
+pub speaker-in : (n t T sender : ℕ) → Fits n t T → sender < n → (r : ℕ) → 1 ≤ r → r ≤ rounds t → speaker-within n sender (as-part (broadcast.part r)) ≡ true
+speaker-in n t T sender fits within =
+    by-parts (λ (r : ℕ). r ≤ rounds t → speaker-within n sender (as-part (broadcast.part r)) ≡ true)
+    (λ h. rw part-sender (lt-ltb sender n within))
+    (λ p h. rw (part-first p))
+    (λ p h. rw (part-second p))
+    (λ p h. rw (part-king p) (lt-ltb p n (omega (arith, first-is p, fits .order, fits .room))))
+
+-- ---- a round that is taken, and one that isn't
+
+module _ (n t T sender : ℕ) (p : Part) (s : Stations) (log : List ℕ) (start : ℕ) where
+  pub took : speaker-within n sender p ≡ true → has-round n start (length log) ≡ true
+      → (s′ : Stations) → Taken n t T sender p s log start s′ → Takes n t T sender p s log start s′
+  unfolding takable
+  took a b s′ takes = record { takes = λ _. takes; stays = λ q. absurd (true≢false (sym (both a b) ∙ q)) }
+    where
+      both : speaker-within n sender p ≡ true → has-round n start (length log) ≡ true → (speaker-within n sender p && has-round n start (length log)) ≡ true
+      both a b = rw (a, b)
+
+  pub left : takable n sender p start (length log) ≡ false → Takes n t T sender p s log start s
+  left e = record { takes = λ q. absurd (true≢false (sym q ∙ e)); stays = λ _. refl }
+
+  pub silent-speaker : speaker-within n sender p ≡ false → takable n sender p start (length log) ≡ false
+  unfolding takable
+  silent-speaker a = rw a
+
+  pub no-round : has-round n start (length log) ≡ false → takable n sender p start (length log) ≡ false
+  unfolding takable
+  no-round b = rw b (go (speaker-within n sender p))
+    where
+      go : (a : Bool) → (a && false) ≡ false
+      go true = refl
+      go false = refl
 
 -- ---- a round that is played, and one that isn't
 

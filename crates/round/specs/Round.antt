@@ -40,6 +40,15 @@ speaker-within n sender First = true
 speaker-within n sender Second = true
 speaker-within n sender (King p) = ltb p n
 
+-- a round that can be taken
+unfoldable pub takable : ℕ → ℕ → Part → ℕ → ℕ → Bool
+takable n sender p start log-size = speaker-within n sender p && has-round n start log-size
+
+-- The promise of `take`: every station has taken its column, or all are as they were.
+pub record Takes (n t T sender : ℕ) (p : Part) (s : Stations) (log : List ℕ) (start : ℕ) (s′ : Stations) : Type 0 where
+  pub takes : takable n sender p start (length log) ≡ true → Taken n t T sender p s log start s′
+  pub stays : takable n sender p start (length log) ≡ false → s′ ≡ s
+
 -- a round that can be played
 unfoldable pub playable : ℕ → ℕ → Part → ℕ → ℕ → ℕ → Bool
 playable n sender p start log-size table-size =

@@ -1,0 +1,2 @@
+-- What crate compare finds.
+pub mod Compare
