@@ -49,6 +49,5 @@ ends-as value grade bytes k =
 unfoldable pub breach : ℕ → Bool → Bool
 breach kept ends = not (not (eqb kept 0) && ends)
 
-unfoldable pub breaches : Course → List ℕ → ℕ → Bool
-breaches c bytes i =
-    breach (getD (c .kept) i 0) (ends-as (getD (c .stations .value) i 0) (getD (c .stations .grade) i 0) bytes (3 * i))
+unfoldable pub breaches : List ℕ → List ℕ → List ℕ → List ℕ → ℕ → Bool
+breaches value grade kept bytes i = breach (getD kept i 0) (ends-as (getD value i 0) (getD grade i 0) bytes (3 * i))

@@ -3,11 +3,11 @@
 ghost use mathlib.Core.Path.{_≡_};
 ghost use Prim.Native.Nat.{_+_, _*_, _≤_, _<_};
 ghost use mathlib.Core.List.{[]};
-ghost use lib.ListN.{length, getD};
+ghost use lib.ListN.{length};
 ghost use Rattle.line.specs.Count.{if_then_else_};
 ghost use Rattle.line.specs.Line.{rounds};
 ghost use Rattle.line.specs.Marks.{marks-of};
-ghost use Rattle.rules.specs.Rules.{Logged, broke};
+ghost use Rattle.rules.specs.Rules.{broke};
 ghost use Rattle.checker.specs.Promise.{logged, check-verdict, Checks};
 ghost use Rattle.checker.specs.Followed.{Checkable, Opened, FollowsOn, Followed, first-value, ends-as, breach, breaches};
 use line::Line;
@@ -123,7 +123,7 @@ fn breach(kept: u8, ends: bool) -> u32
 // The marks of the stations that have, the last station's first, so that the bits of the others move up.
 fn breaches(n: usize, course: Course, outcomes: &[u8]) -> u32
     requires { ⌜ (n ≤ 32) × (length (now outcomes) ≡ 3 * n) ⌝ }
-    ensures { λ r. ⌜ r ≡ marks-of n (breaches course (now (outcomes .entry))) ⌝ }
+    ensures { λ r. ⌜ r ≡ marks-of n (breaches (course .stations .value) (course .stations .grade) (course .kept) (now (outcomes .entry))) ⌝ }
 {
     let stations = course.stations;
     let value = stations.value;

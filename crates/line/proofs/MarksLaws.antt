@@ -1,10 +1,11 @@
 -- Laws of marks. Assumes nothing.
-use Prim.Native.Nat.{ℕ, zero, suc, _+_, _*_, _/_, _%_, _^_, _≤_, _<_}
-use mathlib.Core.Path.{_≡_, refl, sym, ap, _∙_}
+use Prim.Native.Nat.{ℕ, zero, suc, _+_, _-_, _*_, _/_, _%_, _^_, _≤_, _<_}
+use mathlib.Core.Path.{_≡_, refl, sym, ap, subst, _∙_}
 use mathlib.Core.Bool.{Bool, true, false, not}
 use mathlib.Core.Logic.{_⊎_, inl, inr, ⊎-elim, _↔_}
 use native.Mathlib.Omega.{arith}
-use native.Mathlib.Nat.{div-eq-of-lt, le-div-iff-mul-le, lt-of-lt-of-le, lt-of-not-le, mod-eq-of-lt, two-pow-succ, eq-or-lt-of-le, le-of-suc-le-suc}
+use native.Mathlib.Nat.{div-eq-of-lt, le-div-iff-mul-le, lt-of-lt-of-le, lt-of-not-le, mod-eq-of-lt, two-pow-succ, eq-or-lt-of-le, le-of-suc-le-suc, le-refl, zero-mul, add-mul, mul-add, mul-le-mul}
+use native.Mathlib.Numerals.{add-one}
 use lib.Dec.{leb, eqb}
 use lib.Pow.{pow-pos, pow-mono, shr-shr, mod-pow-add}
 use lib.Arith.{bin-ind, digits-lt, digits-div, digits-mod}
@@ -141,3 +142,43 @@ marks-are n p = tests-same n (marked (marks-of n p)) p (rebuilt n (marks-of n p)
 pub marks-back : (n marks : ℕ) → mark-beyond n marks ≡ false → marks-of n (marked marks) ≡ marks
 unfolding mark-beyond
 marks-back n marks e = rebuilt n marks (leb-false (2 ^ n) marks e)
+
+-- ---- marks put together from the last station down: what is put together so far stands above the bits of the first i
+
+module _ (n : ℕ) (p : ℕ → Bool) where
+  pub together-none : marks-of n p ≡ 0 * 2 ^ n + marks-of n p
+  together-none = omega (arith, zero-mul (2 ^ n))
+
+  pub together-turn : (i marks : ℕ) → marks-of n p ≡ marks * 2 ^ (i + 1) + marks-of (i + 1) p
+      → marks-of n p ≡ (2 * marks + (if p i then 1 else 0)) * 2 ^ i + marks-of i p
+  unfolding marks-of
+  together-turn i marks e =
+      let double : 2 ^ suc i ≡ 2 ^ i + 2 ^ i = omega (arith, two-pow-succ i) in
+      let up : marks * 2 ^ suc i ≡ marks * 2 ^ i + marks * 2 ^ i = rw double (mul-add marks (2 ^ i) (2 ^ i)) in
+      let e′ : marks-of n p ≡ marks * 2 ^ suc i + ((if p i then 1 else 0) * 2 ^ i + marks-of i p) = rw (add-one i) at e in
+      let sum : 2 * marks + (if p i then 1 else 0) ≡ marks + (marks + (if p i then 1 else 0)) = omega arith in
+      rw (sum, add-mul, add-mul) (omega (arith, e′, up))
+
+  -- as a loop does that counts down
+  pub together-down : (i marks b : ℕ) → 0 < i → b ≡ (if p (i - 1) then 1 else 0) → marks-of n p ≡ marks * 2 ^ i + marks-of i p
+      → marks-of n p ≡ (2 * marks + b) * 2 ^ (i - 1) + marks-of (i - 1) p
+  together-down i marks b h q e =
+      let back : i ≡ i - 1 + 1 = omega arith in
+      rw q (together-turn (i - 1) marks (subst (λ (k : ℕ). marks-of n p ≡ marks * 2 ^ k + marks-of k p) back e))
+
+  -- which never takes more than 32 bits, where n is at most 32
+  pub together-below : (i marks : ℕ) → n ≤ 32 → marks-of n p ≡ marks * 2 ^ i + marks-of i p → marks < 2 ^ 32
+  together-below i marks h e =
+      let least : marks * 1 ≤ marks * 2 ^ i = mul-le-mul (le-refl marks) (pow-pos i) in
+      let below : marks < 2 ^ n = omega (arith, marks-below n p) in
+      lt-of-lt-of-le below (pow-mono h)
+
+  -- and twice as much as there is below the last station fits too
+  pub together-twice : (i marks : ℕ) → n ≤ 32 → 0 < i → marks-of n p ≡ marks * 2 ^ i + marks-of i p → 2 * marks < 2 ^ 32
+  together-twice i marks h some e =
+      omega (arith, together-below (i - 1) _ h (together-down i marks _ some refl e))
+
+  -- at the end it is all
+  pub together-end : (marks : ℕ) → marks-of n p ≡ marks * 2 ^ 0 + marks-of 0 p → marks ≡ marks-of n p
+  unfolding marks-of
+  together-end marks e = omega (arith, e)

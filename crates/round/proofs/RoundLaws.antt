@@ -140,13 +140,13 @@ speaker-in n t T sender fits within =
 -- ---- a round that is taken, and one that isn't
 
 module _ (n t T sender : ℕ) (p : Part) (s : Stations) (log : List ℕ) (start : ℕ) where
-  pub took : speaker-within n sender p ≡ true → has-round n start (length log) ≡ true
-      → (s′ : Stations) → Taken n t T sender p s log start s′ → Takes n t T sender p s log start s′
+  pub can-take : speaker-within n sender p ≡ true → has-round n start (length log) ≡ true → takable n sender p start (length log) ≡ true
   unfolding takable
-  took a b s′ takes = record { takes = λ _. takes; stays = λ q. absurd (true≢false (sym (both a b) ∙ q)) }
-    where
-      both : speaker-within n sender p ≡ true → has-round n start (length log) ≡ true → (speaker-within n sender p && has-round n start (length log)) ≡ true
-      both a b = rw (a, b)
+  can-take a b = rw (a, b)
+
+  pub took : takable n sender p start (length log) ≡ true
+      → (s′ : Stations) → Taken n t T sender p s log start s′ → Takes n t T sender p s log start s′
+  took e s′ takes = record { takes = λ _. takes; stays = λ q. absurd (true≢false (sym e ∙ q)) }
 
   pub left : takable n sender p start (length log) ≡ false → Takes n t T sender p s log start s
   left e = record { takes = λ q. absurd (true≢false (sym q ∙ e)); stays = λ _. refl }

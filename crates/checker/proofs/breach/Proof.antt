@@ -1,26 +1,20 @@
-use borrow.Author.Needs.{needs}
-use native.Mathlib.Omega.{arith}
-use Prim.Native.Nat.{ℕ, zero, suc, _+_, _*_, _-_, _≤_, _<_}
-use mathlib.Core.Path.{_≡_, refl, sym, ap, _∙_}
-use mathlib.Core.List.{List, [], _∷_, _++_}
-use lib.ListN.{length, getD, take, drop, set, length-set}
-use mathlib.Core.Logic.{⊎-elim}
+-- `breach` meets its contract.
+use borrow.Author.Tests.{eq-eqb, ne-eqb}
+use Rattle.checker.specs.Followed.{breach}
 use Rattle.checker.proofs.breach.Statement.{statement}
 use Rattle.checker.proofs.breach.Tie as tie
-use Rattle.checker.proofs.breach.Reads as reads
-use Rattle.checker.proofs.breach.Lts as lts
 
--- src/lib.rt:118:9
 returns : tie.Need-returns
-returns c = search needs
+unfolding breach
+returns c = rw (eq-eqb _ _ (c .if1 .taken))
 
--- src/lib.rt:114:1
 returns-2 : tie.Need-returns-2
-returns-2 c = search needs
+unfolding breach
+returns-2 c = rw (ne-eqb _ _ (c .before .if1 .left), c .if2 .taken)
 
--- src/lib.rt:114:1
 returns-3 : tie.Need-returns-3
-returns-3 c = search needs
+unfolding breach
+returns-3 c = rw (ne-eqb _ _ (c .before .if1 .left), c .if2 .left)
 
 pub breach-spec : {M : Type 1} → statement M
 breach-spec = tie.close (tie.spec returns returns-2 returns-3)

@@ -1,50 +1,45 @@
+-- `follow` meets its contract: told, compared and taken.
 use borrow.Author.Needs.{needs}
 use native.Mathlib.Omega.{arith}
-use Prim.Native.Nat.{ℕ, zero, suc, _+_, _*_, _-_, _≤_, _<_}
-use mathlib.Core.Path.{_≡_, refl, sym, ap, _∙_}
-use mathlib.Core.List.{List, [], _∷_, _++_}
-use lib.ListN.{length, getD, take, drop, set, length-set}
-use mathlib.Core.Logic.{⊎-elim}
+use native.Mathlib.Numerals.{add-one}
+use Rattle.round.specs.Round.{said-by}
+use Rattle.round.proofs.RoundLaws.{all-of}
+use Rattle.checker.specs.Followed.{FollowsOn}
+use Rattle.checker.proofs.FollowLaws.{few-rounds, followed-on}
 use Rattle.checker.proofs.follow.Statement.{statement}
 use Rattle.checker.proofs.follow.Tie as tie
-use Rattle.checker.proofs.follow.Reads as reads
-use Rattle.checker.proofs.follow.Lts as lts
-use Rattle.compare.proofs.kept_on.Reads as kept-on-reads
-use Rattle.round.proofs.take.Reads as take-reads
-use Rattle.stations.proofs.tell.Reads as tell-reads
-use Rattle.step.proofs.part_of.Reads as part-of-reads
 
--- src/lib.rt:68:30
 add-part-of : tie.Need-add-part-of
-add-part-of c = search needs
+add-part-of c = omega (arith, c .before .pre .1, few-rounds _ (c .before .pre .0))
 
--- src/lib.rt:68:9
 part-of-requires : tie.Need-part-of-requires
 part-of-requires c κs = search needs
 
--- src/lib.rt:72:31
 sub-tell : tie.Need-sub-tell
-sub-tell c = search needs
+sub-tell c = c .before .before .before .before .before .pre .0 .fitting .sender-low
 
--- src/lib.rt:72:16
 tell-requires : tie.Need-tell-requires
 tell-requires c κs = search needs
 
--- src/lib.rt:74:9
 kept-on-requires : tie.Need-kept-on-requires
 kept-on-requires c κs = search needs
 
--- src/lib.rt:75:38
 sub-take : tie.Need-sub-take
-sub-take c = search needs
+sub-take c = c .before .before .before .before .before .before .before .before .before .pre .0 .fitting .sender-low
 
--- src/lib.rt:75:9
 take-requires : tie.Need-take-requires
 take-requires c κs = search needs
 
--- src/lib.rt:64:1
 returns : tie.Need-returns
-returns c = search needs
+unfolding FollowsOn said-by
+returns c =
+    let p = c .before .before .before .before .before .before .before .before in
+    let s = p .before .before in
+    let g = s .args in
+    let said = rw (p .part-of .ensures, add-one (g .r)) at (all-of (g .line .n) _ _ (s .pre .0 .most) (c .before .before .before .before .tell .ensures)) in
+    let kept = rw (s .pre .2) at (c .before .kept-on .ensures) in
+    let took = rw (s .pre .2, p .part-of .ensures, add-one (g .r)) at (c .take .ensures) in
+    λ v F. followed-on _ (s .pre .0) (g .r) (s .pre .1) v _ F _ said _ kept _ took
 
 pub follow-spec : {M : Type 1} → statement M
 follow-spec =

@@ -63,13 +63,12 @@ loop-again c =
     let a = c .before .before .before .before in
     let s = a .before .before in
     let g = s .args in
-    let equal = rw (a .loop .inv .1) at (c .before .equal .ensures) in
-    (
+    let equal = rw (a .loop .inv .1) at (c .before .equal .ensures) in (
       omega arith,
       omega (arith, next-row (a .loop .i) (g .n), a .loop .inv .1),
       simp length-set (a .loop .inv .2),
       each-turn (a .loop .next) _ (a .loop .i) _ (omega (arith, a .loop .inv .2, s .pre .0)) (a .loop .inv .3)
-      (c .unless-other .ensures ∙ one-sender (g .bytes .now) (g .start) (g .n) (g .said .now) _ (a .loop .i) _ equal),
+          (c .unless-other .ensures ∙ one-sender (g .bytes .now) (g .start) (g .n) (g .said .now) _ (a .loop .i) _ equal),
     )
 
 returns : tie.Need-returns Inv-loop μ-loop

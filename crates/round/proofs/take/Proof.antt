@@ -1,7 +1,7 @@
 -- `take` meets its contract: taken, or nothing.
 use borrow.Author.Needs.{needs}
 use mathlib.Core.Path.{sym, _∙_}
-use Rattle.round.proofs.RoundLaws.{took, left, silent-speaker, no-round}
+use Rattle.round.proofs.RoundLaws.{can-take, took, left, silent-speaker, no-round}
 use Rattle.round.proofs.take.Statement.{statement}
 use Rattle.round.proofs.take.Tie as tie
 
@@ -20,8 +20,9 @@ returns c =
     let h = c .before .before .before .before in
     let g = h .before .before .args in
     took (g .line .n) (g .line .t) (g .line .upper) (g .sender) (g .part) (g .s) (g .log .now) (g .start)
+    (can-take (g .line .n) (g .line .t) (g .line .upper) (g .sender) (g .part) (g .s) (g .log .now) (g .start)
     (sym (h .speaker-within .ensures) ∙ c .before .before .before .if1 .taken)
-    (sym (c .before .before .has-round .ensures) ∙ c .before .if2 .taken)
+    (sym (c .before .before .has-round .ensures) ∙ c .before .if2 .taken))
     _ (c .take-all .ensures)
 
 returns-2 : tie.Need-returns-2
