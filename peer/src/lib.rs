@@ -1,13 +1,15 @@
-//! A second implementation of document 01 with Tickets 1 and 2 of document 02: Byzantine agreement on one bit with
-//! two thresholds.
+//! A second implementation of document 01 with Tickets 1 to 3 of document 02: Byzantine agreement on one bit with two
+//! thresholds.
 //!
 //! It shares no code and no table with the crates, so that the two can be compared byte for byte.
 //! Stations and rounds are numbered from 1, as in the document. T is called `upper`.
 
 #![deny(unsafe_code)]
 
+pub mod audit;
 #[cfg(feature = "verified")]
 pub mod bench;
+pub mod check;
 #[cfg(feature = "verified")]
 pub mod compare;
 pub mod draw;
@@ -18,6 +20,7 @@ pub mod ffi;
 pub mod fuzz;
 pub mod line;
 pub mod listing;
+pub mod logs;
 pub mod lot;
 pub mod rehearsal;
 pub mod runs;

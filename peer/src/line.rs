@@ -221,6 +221,11 @@ impl Line {
 pub struct Marks(pub u32);
 
 impl Marks {
+    /// Marks on these stations.
+    pub fn of(stations: impl Iterator<Item = u8>) -> Marks {
+        Marks(stations.fold(0, |marks, station| marks | 1 << (station - 1)))
+    }
+
     /// Whether the station, 1 to 32, is bad.
     pub fn bad(self, station: u8) -> bool {
         self.0 >> (station - 1) & 1 == 1

@@ -1,11 +1,12 @@
-//! Commands on run sheets.
+//! Commands on run sheets and logs.
 
 use std::io::{self, IsTerminal, Read, Write};
 use std::process::ExitCode;
 
+use peer::audit::{self, Asked};
 use peer::draw::draw;
 use peer::line::Cause;
-use peer::listing::{listing, run};
+use peer::listing::{listing, run, Run};
 use peer::runs::runs;
 use peer::writer::{normal_form, rewritten};
 use peer::{sheet, text};
@@ -16,14 +17,18 @@ usage: peer listing [SHEET]    the listing of a run sheet
        peer text [SHEET]       a run sheet as text, in the normal form
        peer rewrite [SHEET]    a run sheet's normal form, as a sheet
        peer draw [SHEET]       a drawing of the run, as SVG
+       peer log [SHEET]        the run's log, as bytes
+       peer outcomes [SHEET]   the run's outcomes, as bytes
        peer runs [RUNS]        what the program of crate runs must print of stored runs
-A file that isn't named, or is named -, is read from standard input. What is made goes to standard output.
-Exit status: 0 if it is made, 1 if the sheet is refused or the text is wrong, 2 for any other trouble.
+       peer audit N T UPPER SENDER LOG OUTCOMES
+                               the stations that broke the rules, by a log's file and its outcomes' file
+What is made goes to standard output. A SHEET, TEXT or RUNS that isn't named, or is named -, is read from standard input.
+Exit status: 0 if it is made, 1 if the sheet or the log is refused or the text is wrong, 2 for any other trouble.
 
 Built with the feature verified:
        peer compare [SEED] [TURNS]    the verified calls compared with this program's answers
-       peer fuzz [SEED] [TURNS] [AGREE] [REWRITE]
-                                      the same on mutated bytes, and both programs; TURNS may be seconds: 600s
+       peer fuzz [SEED] [TURNS] [AGREE] [REWRITE] [AUDIT]
+                                      the same on mutated bytes, and the programs; TURNS may be seconds: 600s
        peer bench                     how long both take";
 
 fn main() -> ExitCode {
@@ -37,6 +42,7 @@ fn main() -> ExitCode {
         "compare" => verified::compare(rest).unwrap_or_else(usage),
         "fuzz" => verified::fuzz(rest).unwrap_or_else(usage),
         "bench" => verified::bench(rest).unwrap_or_else(usage),
+        "audit" => ended(command, make_audit(rest)),
         _ => make(command, rest).unwrap_or_else(usage),
     }
 }
@@ -56,18 +62,24 @@ fn make(command: &str, rest: &[String]) -> Option<ExitCode> {
         "text" => make_text(file),
         "rewrite" => make_normal_form(file),
         "draw" => make_drawing(file),
+        "log" => make_of_run(file, |run| run.log),
+        "outcomes" => make_of_run(file, |run| run.outcomes),
         "runs" => make_runs(file),
         _ => return None,
     };
-    let ended = made.and_then(|made| print(&made.bytes).map(|()| made.refused));
-    Some(match ended {
+    Some(ended(command, made))
+}
+
+/// Prints what a command has made, and says on standard error what is wrong.
+fn ended(command: &str, made: Result<Made, String>) -> ExitCode {
+    match made.and_then(|made| print(&made.bytes).map(|()| made.refused)) {
         Ok(None) => ExitCode::SUCCESS,
         Ok(Some(refusal)) => told(command, &refusal, 1),
         Err(trouble) => told(command, &trouble, 2),
-    })
+    }
 }
 
-/// What a command makes of its file, and why it is refused, if it is.
+/// What a command makes of its files, and why they are refused, if they are.
 struct Made {
     bytes: Vec<u8>,
     refused: Option<String>,
@@ -189,7 +201,12 @@ fn make_normal_form(file: Option<&str>) -> Result<Made, String> {
 }
 
 fn make_drawing(file: Option<&str>) -> Result<Made, String> {
-    let made = run(&read_sheet(file)?).map(|run| draw(&run));
+    make_of_run(file, |run| draw(&run))
+}
+
+/// What is made of a sheet's run.
+fn make_of_run<B: Into<Vec<u8>>>(file: Option<&str>, of: impl Fn(Run) -> B) -> Result<Made, String> {
+    let made = run(&read_sheet(file)?).map(of);
     Ok(made.map_or_else(|cause| Made::refused(refusal(file, cause)), Made::whole))
 }
 
@@ -197,8 +214,19 @@ fn make_runs(file: Option<&str>) -> Result<Made, String> {
     Ok(Made::whole(runs(&read_at_most(file, u64::MAX)?)))
 }
 
+/// The checker's answer to a log and its outcomes.
+fn make_audit(words: &[String]) -> Result<Made, String> {
+    let asked = Asked::new(words).ok_or(audit::WANTED)?;
+    let answer = asked.checked().map_err(|unread| format!("{}: {}", unread.file, unread.error))?;
+    Ok(Made { bytes: audit::line(answer).into_bytes(), refused: answer.err().map(words_of) })
+}
+
 fn refusal(file: Option<&str>, cause: Cause) -> String {
-    format!("{}: refused {}: {}", name(file), cause.number(), cause.words())
+    format!("{}: {}", name(file), words_of(cause))
+}
+
+fn words_of(cause: Cause) -> String {
+    format!("refused {}: {}", cause.number(), cause.words())
 }
 
 fn name(file: Option<&str>) -> &str {

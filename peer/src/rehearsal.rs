@@ -4,18 +4,23 @@ use crate::exchange::{hear_first, hear_second, speak, write_outcomes, PerStation
 use crate::line::{read_king, read_sender, require, Cause, Header, Line, Part, BLANK, SILENCE, STATIONS};
 
 /// What the stations hold between two rounds. What stands at a bad station's place is never used.
-struct Stations<'a> {
+pub(crate) struct Stations<'a> {
     line: Line,
     header: &'a Header,
     /// x; after the second round of an exchange, y.
-    value: PerStation,
+    pub value: PerStation,
     z: PerStation,
-    grade: PerStation,
+    pub grade: PerStation,
 }
 
-impl Stations<'_> {
+impl<'a> Stations<'a> {
+    /// Before the first round.
+    pub fn opened(line: Line, header: &'a Header) -> Stations<'a> {
+        Stations { line, header, value: [0; STATIONS], z: [BLANK; STATIONS], grade: [0; STATIONS] }
+    }
+
     /// What each station sends if it is good, 255 where it doesn't speak.
-    fn ballots(&self, part: Part) -> PerStation {
+    pub fn ballots(&self, part: Part) -> PerStation {
         match part {
             Part::Sender => only(self.header.sender, self.header.value),
             Part::First => self.value,
@@ -25,7 +30,7 @@ impl Stations<'_> {
     }
 
     /// Each station takes what was said to it in a round.
-    fn hear(&mut self, part: Part, said: &[u8]) {
+    pub fn hear(&mut self, part: Part, said: &[u8]) {
         match part {
             Part::Sender => {
                 let bytes = self.line.from_one(self.header.sender, said);
@@ -61,8 +66,7 @@ pub fn rehearse(header: &Header, table: &[u8], log: &mut [u8], outcomes: &mut [u
     require(log.len() == line.table_len(), Cause::Length)?;
     require(outcomes.len() == line.outcomes_len(), Cause::Length)?;
 
-    let (value, z, grade) = ([0; STATIONS], [BLANK; STATIONS], [0; STATIONS]);
-    let mut stations = Stations { line, header, value, z, grade };
+    let mut stations = Stations::opened(line, header);
     let rounds = log.chunks_exact_mut(line.round_len()).zip(table.chunks_exact(line.round_len()));
     for ((said, from_table), round) in rounds.zip(1..) {
         let part = line.part(round);

@@ -3,6 +3,8 @@
 use std::io::Write;
 use std::process::{Command, Stdio};
 
+use peer::line::Cause;
+
 const CASE_A: [u8; 12] = [4, 1, 1, 1, 1, 0, 0, 0, 8, 0, 0, 0];
 const CASE_A_TEXT: &str = "n 4\nt 1\nT 1\nsender 1\nvalue 1\nbad 4\n";
 const CASE_A_LISTING: &str = "agree 4 1 1 1 9\n1 1 2 0\n2 1 2 0\n3 1 2 0\n4 - - -\n";
@@ -64,7 +66,7 @@ fn a_wrong_text() {
 fn refused_sheets() {
     let mut sheet = CASE_A;
     sheet[6] = 1;
-    for command in ["text", "draw"] {
+    for command in ["text", "draw", "log", "outcomes"] {
         let said = format!("{command}: standard input: refused 9: the chain reaches an index above k\n");
         assert_eq!(peer(&[command], &sheet), (1, vec![], said));
     }
@@ -95,11 +97,80 @@ fn a_drawing() {
     assert!(drawing.starts_with(b"<svg ") && drawing.ends_with(b"</svg>\n"));
 }
 
+/// Case A's log and outcomes.
+#[test]
+fn log_and_outcomes() {
+    let (status, log, said) = peer(&["log"], &CASE_A);
+    assert_eq!((status, log.len(), said.as_str()), (0, 144, ""));
+    // round 1 is the sender's, in round 2 all good stations speak
+    assert_eq!(log[..32], [[1; 4], [255; 4], [255; 4], [255; 4], [1; 4], [1; 4], [1; 4], [255; 4]].concat());
+    let outcomes = vec![1, 2, 0, 1, 2, 0, 1, 2, 0, 255, 255, 255];
+    assert_eq!(peer(&["outcomes", "-"], &CASE_A), (0, outcomes, String::new()));
+}
+
+/// Case A's log and outcomes, changed, refused, and words that are wrong.
+#[test]
+fn audit() {
+    let (mut log, mut outcomes) = (peer(&["log"], &CASE_A).1, peer(&["outcomes"], &CASE_A).1);
+    let names = ["audit-log", "audit-outcomes"];
+    let audit = |log: &[u8], outcomes: &[u8], numbers: [&str; 4]| {
+        let [log, outcomes] = [file(names[0], log), file(names[1], outcomes)];
+        peer(&[&["audit"][..], &numbers, &[&log, &outcomes]].concat(), &[])
+    };
+    let case = ["4", "1", "1", "1"];
+    let printed = |text: &str| (0, text.as_bytes().to_vec(), String::new());
+    assert_eq!(audit(&log, &outcomes, case), printed("broke 4\n"));
+    assert_eq!(audit(&log, &outcomes, ["004", "1", "01", "1"]), printed("broke 4\n"));
+    // station 2 to station 4 in round 2
+    log[16 + 7] = 0;
+    assert_eq!(audit(&log, &outcomes, case), printed("broke 2 4\n"));
+    (log[16 + 7], outcomes[2]) = (1, 1);
+    assert_eq!(audit(&log, &outcomes, case), printed("broke 1 4\n"));
+    assert_eq!(audit(&[1; 6], &[1, 2, 0], ["1", "0", "0", "1"]), printed("broke\n"));
+
+    let long = vec![0; 100_000];
+    for (log, outcomes, numbers, cause) in [
+        (&log, &outcomes, ["256", "1", "1", "1"], Cause::StationCount),
+        (&log, &outcomes, ["4", "99999999999999999999", "1", "1"], Cause::Thresholds),
+        (&log, &outcomes, ["4", "1", "1", "0"], Cause::StationNumber),
+        (&long, &outcomes, case, Cause::Length),
+        (&log, &long, case, Cause::Length),
+    ] {
+        let (number, words) = (cause.number(), cause.words());
+        let (printed, said) = (format!("refused {number}\n"), format!("audit: refused {number}: {words}\n"));
+        assert_eq!(audit(log, outcomes, numbers), (1, printed.into_bytes(), said));
+    }
+}
+
+#[test]
+fn audit_of_nothing() {
+    let there = file("audit-there", &[]);
+    let words =
+        "audit: wanted are n, t, T and the sender in decimal, the log's file and the outcomes' file\n";
+    for numbers in
+        [&["4", "1", "1"][..], &["4", "1", "1", "1", "1"], &["4", "1", "1", ""], &["4", "1", "+1", "1"]]
+    {
+        let said = peer(&[&["audit"], numbers, &[&there, &there]].concat(), &[]);
+        assert_eq!(said, (2, vec![], words.to_string()));
+    }
+    let folder = env!("CARGO_TARGET_TMPDIR");
+    for (log, outcomes, missing) in [("no log", "no outcomes", "no log"), (&there, folder, folder)] {
+        let (status, printed, said) = peer(&["audit", "4", "1", "1", "1", log, outcomes], &[]);
+        assert_eq!((status, printed), (2, vec![]));
+        assert!(said.starts_with(&format!("audit: {missing}: ")));
+    }
+}
+
+/// A file with these bytes, by its name.
+fn file(name: &str, bytes: &[u8]) -> String {
+    let file = std::path::Path::new(env!("CARGO_TARGET_TMPDIR")).join(name);
+    std::fs::write(&file, bytes).unwrap();
+    file.to_str().unwrap().to_string()
+}
+
 #[test]
 fn files() {
-    let file = std::path::Path::new(env!("CARGO_TARGET_TMPDIR")).join("case-a");
-    std::fs::write(&file, CASE_A).unwrap();
-    let name = file.to_str().unwrap();
+    let name = &file("case-a", &CASE_A);
     assert_eq!(peer(&["listing", name], &[]), (0, CASE_A_LISTING.as_bytes().to_vec(), String::new()));
     let (status, printed, said) = peer(&["listing", "no such file"], &CASE_A);
     assert_eq!((status, printed), (2, vec![]));
@@ -109,15 +180,14 @@ fn files() {
 /// A failed read is no sheet: a folder can be opened and not read.
 #[test]
 fn what_cannot_be_read_or_written() {
-    for command in ["listing", "sheet", "text", "rewrite", "draw", "runs"] {
+    for command in ["listing", "sheet", "text", "rewrite", "draw", "log", "outcomes", "runs"] {
         let (status, printed, said) = peer(&[command, env!("CARGO_TARGET_TMPDIR")], &[]);
         assert_eq!((status, printed), (2, vec![]));
         assert!(said.starts_with(&format!("{command}: ")) && said.ends_with("(os error 21)\n"));
     }
     let full = std::fs::File::create("/dev/full").unwrap();
     let mut command = Command::new(env!("CARGO_BIN_EXE_peer"));
-    let file = std::path::Path::new(env!("CARGO_TARGET_TMPDIR")).join("case-a-text");
-    std::fs::write(&file, CASE_A_TEXT).unwrap();
+    let file = file("case-a-text", CASE_A_TEXT.as_bytes());
     let output = command.arg("sheet").arg(file).stdout(full).output().unwrap();
     assert_eq!(output.status.code(), Some(2));
     assert!(String::from_utf8(output.stderr).unwrap().starts_with("sheet: standard output: "));

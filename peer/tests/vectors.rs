@@ -5,6 +5,7 @@ mod json;
 use std::collections::BTreeSet;
 
 use json::Value;
+use peer::check::check;
 use peer::exchange::alone;
 use peer::line::{Cause, Header, Marks};
 use peer::listing::listing;
@@ -62,6 +63,12 @@ fn write(args: &Value) -> Value {
             refused(cause)
         }
     }
+}
+
+fn checked(args: &Value) -> Value {
+    let [log, outcomes] = ["log", "outcomes"].map(|name| args.at(name).bytes());
+    let marks = check(line(args), args.number("sender"), &log, &outcomes);
+    marks.map_or_else(refused, |marks| Value::object([("marks", Value::Number(marks.0.into()))]))
 }
 
 fn exchange(args: &Value) -> Value {
@@ -138,6 +145,7 @@ fn made(call: &str, args: &Value) -> Value {
     match call {
         "read" => read(args),
         "write" => write(args),
+        "check" => checked(args),
         "exchange" => exchange(args),
         "rehearse" => rehearsal(args),
         "station" => station(args),
@@ -154,7 +162,7 @@ fn calls() {
         assert_eq!(&made, vector.at("want"), "calls.jsonl, line {number}");
     }
     let names: BTreeSet<&str> = vectors.iter().map(|vector| vector.text("call")).collect();
-    assert_eq!(names.len(), 6, "a call has no vector: {names:?}");
+    assert_eq!(names.len(), 7, "a call has no vector: {names:?}");
 }
 
 #[test]
