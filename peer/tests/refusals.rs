@@ -3,6 +3,7 @@
 mod common;
 
 use common::Lot;
+use peer::check::{check, check_by_round};
 use peer::exchange::alone;
 use peer::line::{Cause, Header, Line, Marks, LARGEST_TABLE};
 use peer::rehearsal::rehearse;
@@ -117,6 +118,33 @@ fn writing() {
         seen[if needed == expected { usize::from(expected) } else { 15 }] += 1;
     }
     assert!([0, 1, 2, 3, 4, 5, 6, 8, 14, 15].iter().all(|&cause: &usize| seen[cause] > 20), "{seen:?}");
+}
+
+#[test]
+fn checking() {
+    let mut lot = Lot(6);
+    let mut seen = [0; 14];
+    for _ in 0..20_000 {
+        let (n, t, upper) = lot.edge_numbers();
+        let sender = lot.pick(&[1, 1, n, n, 0, n.wrapping_add(1)]);
+        let (exact, three) = lengths(n, t, 3 * usize::from(t) + 6);
+        let (log, outcomes) = (vec![1; lot.near(exact)], vec![1; lot.near(three)]);
+        let expected = lowest(&[
+            (2, no_stations(n)),
+            (3, no_thresholds(n, t, upper)),
+            (4, sender == 0 || sender > n),
+            (8, log.len() != exact || outcomes.len() != three),
+        ]);
+        for check in [check, check_by_round] {
+            assert_eq!(
+                code(check((n, t, upper), sender, &log, &outcomes)),
+                expected,
+                "{n} {t} {upper} {sender}"
+            );
+        }
+        seen[usize::from(expected)] += 1;
+    }
+    assert!([0, 2, 3, 4, 8].iter().all(|&cause: &usize| seen[cause] > 20), "{seen:?}");
 }
 
 #[test]
