@@ -53,6 +53,16 @@ mod exported {
             outcomes: *mut u8,
             outcomes_len: usize,
         ) -> u8;
+        pub fn vembopu_check(
+            n: u8,
+            t: u8,
+            upper: u8,
+            sender: u8,
+            log: *const u8,
+            log_len: usize,
+            outcomes: *const u8,
+            outcomes_len: usize,
+        ) -> u64;
         pub fn vembopu_open(n: u8, t: u8, upper: u8, sender: u8, own: u8, value: u8) -> u64;
         pub fn vembopu_ballot(n: u8, t: u8, upper: u8, sender: u8, own: u8, state: u32) -> u64;
         pub fn vembopu_advance(
@@ -172,6 +182,13 @@ pub fn exchange(
     }
 }
 
+/// Checks a log and its outcomes: the marks of the stations that broke the rules.
+pub fn check((n, t, upper): (u8, u8, u8), sender: u8, log: ReadOnly, outcomes: ReadOnly) -> u64 {
+    let (log, outcomes) = (&log.0, &outcomes.0);
+    // SAFETY: as for `read`.
+    unsafe { exported::vembopu_check(n, t, upper, sender, log.start, log.len, outcomes.start, outcomes.len) }
+}
+
 /// Opens a station: its state.
 pub fn open((n, t, upper): (u8, u8, u8), sender: u8, own: u8, value: u8) -> u64 {
     // SAFETY: numbers only.
@@ -229,7 +246,8 @@ pub mod planted {
         };
         let names = |told: String| {
             let changed = |name: &&str| told.contains(&format!("{name}, only to be read, byte {byte}: "));
-            let all = ["the sheet", "the header", "the table", "the inputs", "the row"];
+            let all =
+                ["the sheet", "the header", "the table", "the inputs", "the log", "the outcomes", "the row"];
             all.into_iter().filter(changed).collect()
         };
         let found = (0..3).flat_map(|buffer| -> Vec<&str> { names(told(buffer)) }).collect();

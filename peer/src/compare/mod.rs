@@ -1,5 +1,6 @@
 //! The verified implementation's calls compared with this one's answers, on inputs drawn by lot.
 
+pub(crate) mod checker;
 pub(crate) mod input;
 pub(crate) mod lent;
 pub(crate) mod lines;
@@ -34,12 +35,14 @@ const fn call(
     Call { name, inputs, numbers, compare }
 }
 
-const CALLS: [Call; 12] = [
+const CALLS: [Call; 14] = [
     call("read", 4, &reader::NUMBERS, reader::read),
     call("sheet_len", 1, &writer::NUMBERS, writer::sheet_len),
     call("write", 1, &writer::NUMBERS, writer::write),
     call("read back", 1, &[0], writer::read_back),
     call("rehearse", 2, &lines::REHEARSE, lines::rehearse),
+    call("check", 2, &checker::NUMBERS, checker::check),
+    call("marks back", 1, &[0], checker::marks_back),
     call("exchange", 8, &lines::EXCHANGE, lines::exchange),
     call("open", 8, &stations::OPEN, stations::open),
     call("ballot", 16, &stations::ASK, stations::ballot),
@@ -111,6 +114,8 @@ mod tests {
                 "sheet_len" | "write" => &["the table", "the header"],
                 "read back" => &["the table", "the header", "the sheet"],
                 "rehearse" => &["the table"],
+                "check" => &["the outcomes", "the log"],
+                "marks back" => &["the table", "the outcomes", "the log"],
                 "exchange" => &["the table", "the inputs"],
                 "advance" | "advance_lent" => &["the row"],
                 "whole run" => &["the row"; 3],

@@ -15,7 +15,7 @@ use crate::writer;
 pub const NUMBERS: [u8; 9] = [0, 1, 2, 3, 4, 5, 6, 8, 14];
 
 /// How many stations a line may have: mostly few, since a large table takes long.
-fn most(lot: &mut Lot) -> u8 {
+pub fn most(lot: &mut Lot) -> u8 {
     if lot.one_in(24) {
         32
     } else {
