@@ -1,6 +1,7 @@
 //! Logs with their outcomes drawn by lot: as the rehearsal writes them, and as other makers might.
 
-use crate::line::{Header, Line};
+use crate::check::check;
+use crate::line::{Cause, Header, Line, Marks};
 use crate::lot::Lot;
 use crate::rehearsal::rehearse;
 use crate::station::{Answer, Station};
@@ -21,6 +22,11 @@ impl Logged {
         let (mut log, mut outcomes) = (vec![0; line.table_len()], vec![0; line.outcomes_len()]);
         rehearse(header, table, &mut log, &mut outcomes).expect("an accepted run");
         Logged { numbers: (header.n, header.t, header.upper), sender: header.sender, log, outcomes }
+    }
+
+    /// What the checker answers.
+    pub fn checked(&self) -> Result<Marks, Cause> {
+        check(self.numbers, self.sender, &self.log, &self.outcomes)
     }
 
     /// How a good station ends that takes its rows of the log.

@@ -22,7 +22,8 @@ usage: peer listing [SHEET]    the listing of a run sheet
        peer runs [RUNS]        what the program of crate runs must print of stored runs
        peer audit N T UPPER SENDER LOG OUTCOMES
                                the stations that broke the rules, by a log's file and its outcomes' file
-What is made goes to standard output. A SHEET, TEXT or RUNS that isn't named, or is named -, is read from standard input.
+A SHEET, TEXT or RUNS that isn't named, or is named -, is read from standard input. What is made goes to
+standard output.
 Exit status: 0 if it is made, 1 if the sheet or the log is refused or the text is wrong, 2 for any other trouble.
 
 Built with the feature verified:
@@ -132,11 +133,12 @@ mod verified {
     }
 
     pub fn fuzz(words: &[String]) -> Option<ExitCode> {
-        let seed = word(words, 0, 4, "1")?.parse().ok()?;
-        let until = Until::new(&word(words, 1, 4, "20000")?)?;
-        let agree = word(words, 2, 4, "../target/bin/agree")?;
-        let rewrite = word(words, 3, 4, "../target/bin/rewrite")?;
-        match Fuzz::new(seed, Path::new(&agree), Path::new(&rewrite)) {
+        let seed = word(words, 0, 5, "1")?.parse().ok()?;
+        let until = Until::new(&word(words, 1, 5, "20000")?)?;
+        let agree = word(words, 2, 5, "../target/bin/agree")?;
+        let rewrite = word(words, 3, 5, "../target/bin/rewrite")?;
+        let audit = word(words, 4, 5, "../target/bin/audit")?;
+        match Fuzz::new(seed, Path::new(&agree), Path::new(&rewrite), Path::new(&audit)) {
             Ok(mut fuzz) => {
                 fuzz.run(until);
                 Some(ended(&fuzz.report(), fuzz.failed()))

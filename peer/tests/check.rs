@@ -9,7 +9,7 @@ use peer::logs::{draw, Logged};
 use peer::rehearsal::rehearse;
 
 fn broke(logged: &Logged) -> u32 {
-    check(logged.numbers, logged.sender, &logged.log, &logged.outcomes).expect("a log of its line").0
+    logged.checked().expect("a log of its line").0
 }
 
 fn line(logged: &Logged) -> Line {
@@ -149,7 +149,7 @@ fn the_same_set_by_other_ways() {
             logged.outcomes.resize(lot.near(logged.outcomes.len()), 0);
             let Logged { numbers, sender, log, outcomes } = &logged;
             let by_round = check_by_round(*numbers, *sender, log, outcomes);
-            assert_eq!(by_round, check(*numbers, *sender, log, outcomes), "{logged:?}");
+            assert_eq!(by_round, logged.checked(), "{logged:?}");
         }
     }
 }

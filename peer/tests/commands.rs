@@ -214,7 +214,7 @@ fn commands_that_are_not_built() {
     assert_eq!(peer(&["bench"], &[]), (2, vec![], said));
 }
 
-/// Seed 7 and so many turns of a command that compares twelve calls: all pass, without a difference.
+/// Seed 7 and so many turns of a command that compares fourteen calls: all pass, without a difference.
 #[cfg(feature = "verified")]
 fn finds_no_difference(command: &str, turns: &str) {
     let (status, printed, said) = peer(&[command, "7", turns], &[]);
@@ -223,7 +223,7 @@ fn finds_no_difference(command: &str, turns: &str) {
     let printed = String::from_utf8(printed).unwrap();
     assert!(
         printed.starts_with(&format!("seed 7, {turns} turns; "))
-            && printed.ends_with("\n12 passed, 0 failed\n")
+            && printed.ends_with("\n14 passed, 0 failed\n")
     );
 }
 
@@ -240,29 +240,33 @@ fn comparing() {
 #[test]
 fn fuzzing() {
     finds_no_difference("fuzz", "300");
-    for words in [&["fuzz", "x"][..], &["fuzz", "1", "2m"], &["fuzz", "1", "1", "a", "b", "c"]] {
+    for words in [&["fuzz", "x"][..], &["fuzz", "1", "2m"], &["fuzz", "1", "1", "a", "b", "c", "d"]] {
         assert_eq!(peer(words, &[]).0, 2);
     }
-    for (words, name) in [(&["nowhere"][..], "agree"), (&[AGREE, "nowhere"], "rewrite")] {
+    for (words, name) in programs("nowhere") {
         let said = format!("peer fuzz: nowhere isn't there: ./build {name} makes it\n");
-        assert_eq!(peer(&[&["fuzz", "1", "1"], words].concat(), &[]), (2, vec![], said));
+        assert_eq!(peer(&[&["fuzz", "1", "1"], &words[..]].concat(), &[]), (2, vec![], said));
     }
 }
 
+/// This file for each program in turn, those before it as they are built; and the program's name.
 #[cfg(feature = "verified")]
-const AGREE: &str = "../target/bin/agree";
+fn programs(file: &str) -> [(Vec<&str>, &'static str); 3] {
+    let [agree, rewrite] = ["../target/bin/agree", "../target/bin/rewrite"];
+    [(vec![file], "agree"), (vec![agree, file], "rewrite"), (vec![agree, rewrite, file], "audit")]
+}
 
-/// A program that prints no sheet and no listing stands for each program: this one, which wants a command.
+/// A program that prints none of what is wanted stands for each program: this one, which wants a command.
 #[cfg(feature = "verified")]
 #[test]
 fn fuzzing_a_wrong_program() {
     let wrong = env!("CARGO_BIN_EXE_peer");
-    for (words, name) in [(&[wrong][..], "agree"), (&[AGREE, wrong], "rewrite")] {
-        let (status, printed, said) = peer(&[&["fuzz", "7", "300"], words].concat(), &[]);
+    for (words, name) in programs(wrong) {
+        let (status, printed, said) = peer(&[&["fuzz", "7", "300"], &words[..]].concat(), &[]);
         let printed = String::from_utf8(printed).unwrap();
-        assert!(status == 1 && printed.ends_with(" inputs with a difference\n11 passed, 1 failed\n"));
+        assert!(status == 1 && printed.ends_with(" inputs with a difference\n13 passed, 1 failed\n"));
         let exit = format!("{name}: exit status: 2, on standard error ");
-        for words in [&exit, "\n  sheet, ", "to repeat: peer fuzz 7 "] {
+        for words in [&exit, " bytes\n", "to repeat: peer fuzz 7 "] {
             assert!(said.contains(words));
         }
     }

@@ -6,7 +6,6 @@ use super::lines;
 use super::report::Compared;
 use super::stations::{compared, difference, word};
 use super::writer::most;
-use crate::check;
 use crate::ffi;
 use crate::line::{Header, Marks};
 use crate::logs::{self, Logged};
@@ -52,13 +51,15 @@ pub fn check(lot: &mut Lot) -> Compared {
 
 /// A log and its outcomes checked by both.
 pub fn check_of(logged: &Logged) -> Compared {
-    let Logged { numbers, sender, log, outcomes } = logged;
-    let ours = word(check::check(*numbers, *sender, log, outcomes).map(|marks| marks.0), 0);
-    let (theirs, changed) = verified(*numbers, *sender, log, outcomes);
-    compared(ours, difference(ours, theirs).or(changed), |told| {
-        let told = told.line(*numbers).number("sender", *sender);
-        told.bytes("log", log).bytes("outcomes", outcomes)
-    })
+    let ours = word(logged.checked().map(|marks| marks.0), 0);
+    let (theirs, changed) = verified(logged.numbers, logged.sender, &logged.log, &logged.outcomes);
+    compared(ours, difference(ours, theirs).or(changed), |what| told(what, logged))
+}
+
+/// Tells a log and its outcomes.
+pub fn told(what: Told, logged: &Logged) -> Told {
+    let told = what.line(logged.numbers).number("sender", logged.sender);
+    told.bytes("log", &logged.log).bytes("outcomes", &logged.outcomes)
 }
 
 /// What the verified call answers, and what has changed that it may only read.

@@ -1,12 +1,13 @@
 //! What an input is to each call: its first bytes the numbers, the others its row, inputs or table. Numbers that
 //! an input is too short for are 0. The lengths of lent buffers are drawn, mostly the right ones.
 
-use super::features::{bits, features, of_ballot, of_outcomes, of_result, of_row, of_sheet};
+use super::features::{bits, features, of_ballot, of_broken, of_outcomes, of_result, of_row, of_sheet};
 use super::pool::{Features, Shape};
 use crate::compare::lent::Lending;
 use crate::compare::report::Compared;
-use crate::compare::{lines, reader, stations, writer};
-use crate::line::{Header, Line, Marks, SILENCE};
+use crate::compare::{checker, lines, reader, stations, writer};
+use crate::line::{Cause, Header, Line, Marks, SILENCE};
+use crate::logs::Logged;
 use crate::lot::Lot;
 use crate::sheet::{self, HEADER_LEN, LONGEST, RECORDS, RECORD_LEN};
 use crate::station::Station;
@@ -50,6 +51,7 @@ pub fn linked() -> Vec<Call> {
         Call::new("sheet_len", Shape::Line, 16, &writer::NUMBERS, sheet_len),
         Call::new("write", Shape::Line, 8, &writer::NUMBERS, write),
         Call::new("rehearse", Shape::Line, 1, &lines::REHEARSE, rehearse),
+        Call::new("check", Shape::Line, 8, &checker::NUMBERS, check),
         Call::new("exchange", Shape::Line, 1, &lines::EXCHANGE, exchange),
         Call::new("open", Shape::Station, 1, &stations::OPEN, |_, input| open(input)),
         Call::new("ballot", Shape::Station, 1, &stations::ASK, |_, input| ballot(input)),
@@ -91,7 +93,7 @@ fn station(input: &[u8]) -> Station {
 }
 
 /// Of a call that isn't accepted only n is told.
-fn tried(compared: Compared, n: u8, accepted: Option<Features>) -> Tried {
+pub fn tried(compared: Compared, n: u8, accepted: Option<Features>) -> Tried {
     let features = accepted.unwrap_or_else(|| features(&[bits(n.into())]));
     Tried { compared, features }
 }
@@ -121,10 +123,15 @@ fn read_table(lot: &mut Lot, input: &[u8], line: &Line) -> Option<Vec<u8>> {
     sheet::read(&sheet(lot, input), &mut table).ok().map(|_| table)
 }
 
-/// A run's table: half of the time the sheet's own, else one of any bytes.
+/// A run's table: half of the time the sheet's own, else one of any bytes, now and then of another length.
 fn table(lot: &mut Lot, input: &[u8], line: &Line) -> Vec<u8> {
-    let read = if lot.one_in(2) { read_table(lot, input, line) } else { None };
     let len = lines::len(lot, line.table_len());
+    table_of(lot, input, line, len)
+}
+
+/// The same, of this length where it isn't the sheet's own.
+fn table_of(lot: &mut Lot, input: &[u8], line: &Line, len: usize) -> Vec<u8> {
+    let read = if lot.one_in(2) { read_table(lot, input, line) } else { None };
     read.unwrap_or_else(|| stretched(rest(input, HEADER_LEN), len))
 }
 
@@ -171,6 +178,41 @@ fn rehearse(lot: &mut Lot, input: &[u8]) -> Tried {
     let accepted = compared.number == 0;
     let accepted = accepted.then(|| of_outcomes(&line, header.marks, outcomes.ours.bytes()));
     tried(compared, header.n, accepted)
+}
+
+/// The header with what is refused of it replaced.
+fn accepted(header: &Header) -> Header {
+    let line = lines::line_of((header.n, header.t, header.upper));
+    let (n, t, upper) = (line.n() as u8, line.t(), line.upper());
+    let sender = if line.has(header.sender) { header.sender } else { 1 };
+    let marks = Marks(header.marks.0 & (u32::MAX >> (32 - n)));
+    Header { n, t, upper, sender, value: header.value & 1, marks }
+}
+
+/// A log of the header's line, and outcomes: those of the table's run, or any bytes, then changed or not.
+pub fn logged(lot: &mut Lot, input: &[u8]) -> Logged {
+    let Header { n, t, upper, sender, .. } = header(input);
+    let line = lines::line_of((n, t, upper));
+    let table = table_of(lot, input, &line, line.table_len());
+    let mut logged = Logged::of_run(&accepted(&header(input)), &table);
+    if lot.one_in(4) {
+        (logged.log, logged.outcomes) = (table, stretched(rest(input, HEADER_LEN), line.outcomes_len()));
+    }
+    while lot.one_in(2) {
+        logged.change(lot, &line);
+    }
+    checker::resize(lot, &mut logged);
+    Logged { numbers: (n, t, upper), sender, ..logged }
+}
+
+/// What is told of a log by the checker's answer.
+pub fn of_checked(logged: &Logged, answer: Result<Marks, Cause>) -> Option<Features> {
+    answer.ok().map(|broke| of_broken(&lines::line_of(logged.numbers), logged.sender, broke))
+}
+
+fn check(lot: &mut Lot, input: &[u8]) -> Tried {
+    let logged = logged(lot, input);
+    tried(checker::check_of(&logged), logged.numbers.0, of_checked(&logged, logged.checked()))
 }
 
 /// An exchange of the header's line: the inputs first, half of the time only bits, then the table.
@@ -257,9 +299,23 @@ mod tests {
         let found: Vec<Vec<&str>> = linked().into_iter().map(found).collect();
         let (row, table) = (vec!["the row"], vec!["the table"]);
         let written = vec!["the table", "the header"];
-        let read = [vec!["the sheet"], written.clone(), written, table, vec!["the table", "the inputs"]];
+        let read = [vec!["the sheet"], written.clone(), written, table];
+        let lines = [vec!["the outcomes", "the log"], vec!["the table", "the inputs"]];
         let stations = [vec![], vec![], row.clone(), row, vec![]];
-        assert_eq!(found, [read, stations].concat());
+        assert_eq!(found, [&read[..], &lines, &stations].concat());
+    }
+
+    /// A header whose t, sender, value and marks are refused.
+    #[test]
+    fn a_log_of_any_input() {
+        let refused = header(&[4, 1, 1, 9, 7, 0, 0, 0, 0xf8, 1, 1, 1]);
+        let header = Header { sender: 1, value: 1, marks: Marks(8), ..refused };
+        assert!(header.judge().is_ok());
+        assert_eq!([2, 1].map(|t| accepted(&Header { t, ..refused })), [header; 2]);
+        for seed in 0..40 {
+            let logged = logged(&mut Lot(seed), &[32, 10, 10, 40]);
+            assert_eq!((logged.numbers, logged.sender), ((32, 10, 10), 40));
+        }
     }
 
     /// Case A as it stands, and as a station in its first round.
@@ -276,9 +332,10 @@ mod tests {
             all.iter().map(|compared| compared.number).collect::<Vec<u8>>()
         };
         let seeds = 0..40;
-        assert!(seeds.clone().any(|seed| numbers(sheet, seed) == [0, 0, 0, 0, 0, 0, 7, 7, 7, 7]));
+        assert!(seeds.clone().any(|seed| numbers(sheet, seed) == [0, 0, 0, 0, 0, 0, 0, 7, 7, 7, 7]));
         assert!(seeds.clone().any(|seed| numbers(sheet, seed)[1..3] == [0, 8]));
-        assert!(seeds.clone().any(|seed| numbers(&opened, seed)[5..] == [0, 0, 0, 0, 0]));
-        assert!(seeds.clone().any(|seed| numbers(&opened, seed)[7..9] == [8, 8]));
+        assert!((0..400).any(|seed| numbers(sheet, seed)[4] == 8));
+        assert!(seeds.clone().any(|seed| numbers(&opened, seed)[6..] == [0, 0, 0, 0, 0]));
+        assert!(seeds.clone().any(|seed| numbers(&opened, seed)[8..10] == [8, 8]));
     }
 }

@@ -46,14 +46,24 @@ fn chained(sheet: &[u8]) -> Vec<u8> {
     ballots
 }
 
+/// How many of the thresholds f exceeds.
+fn beside(line: &Line, marks: Marks) -> u8 {
+    let exceeded = |threshold: u8| u8::from(marks.count() > threshold.into());
+    exceeded(line.t()) + exceeded(line.upper())
+}
+
 /// Of an accepted run or exchange: its line, f beside the thresholds, which outcomes came.
 pub fn of_outcomes(line: &Line, marks: Marks, outcomes: &[u8]) -> Features {
-    let f = marks.count();
-    let beside = u8::from(f > line.t().into()) + u8::from(f > line.upper().into());
     let kind = |outcome: &[u8]| 1 << (3 * outcome[0] + outcome[1]);
     let good = outcomes.chunks_exact(3).filter(|outcome| outcome[0] <= 1);
     let kinds = good.fold(0, |kinds, outcome| kinds | kind(outcome));
-    features(&[bits(line.n()), bits(line.t().into()), beside, kinds])
+    features(&[bits(line.n()), bits(line.t().into()), beside(line, marks), kinds])
+}
+
+/// Of a log that is checked: its line, how many stations broke the rules, whether the sender did.
+pub fn of_broken(line: &Line, sender: u8, broke: Marks) -> Features {
+    let many = bits(broke.count() as usize);
+    features(&[bits(line.n()), bits(line.t().into()), beside(line, broke), many, broke.bad(sender).into()])
 }
 
 /// Of an accepted row: the round's part, the station before and after.
@@ -113,5 +123,7 @@ mod tests {
         assert_eq!(told(0, &[0, 2, 0, 0, 2, 0]), [3, 0, 0, 4, 0, 0, 0, 0]);
         assert_eq!(told(2, &[0, 0, 1, 255, 255, 255, 1, 2, 0]), [3, 0, 1, 33, 0, 0, 0, 0]);
         assert_eq!(told(6, &[0, 0, 1, 255, 255, 255, 255, 255, 255]), [3, 0, 2, 1, 0, 0, 0, 0]);
+        assert_eq!(of_broken(&line, 2, Marks(0b1010)), [3, 0, 2, 2, 1, 0, 0, 0]);
+        assert_eq!(of_broken(&line, 1, Marks(0b0010)), [3, 0, 1, 1, 0, 0, 0, 0]);
     }
 }

@@ -2,6 +2,7 @@
 //! programs, and the answers compared with this implementation's. An input that makes an answer of a kind not
 //! seen before joins the pool, so that the fuzz finds its way past the refusals.
 
+mod audit;
 mod calls;
 mod features;
 mod mutate;
@@ -58,11 +59,12 @@ pub struct Fuzz {
 }
 
 impl Fuzz {
-    /// Every exported call, and the programs `agree` and `rewrite`. An error where a program isn't there.
-    pub fn new(seed: u64, agree: &Path, rewrite: &Path) -> Result<Fuzz, String> {
+    /// Every exported call, and the programs `agree`, `rewrite` and `audit`. An error where a program isn't there.
+    pub fn new(seed: u64, agree: &Path, rewrite: &Path, audit: &Path) -> Result<Fuzz, String> {
         let mut calls = calls::linked();
         calls.push(program::agree(agree)?);
         calls.push(program::rewrite(rewrite)?);
+        calls.push(audit::audit(audit)?);
         Ok(Fuzz::of(seed, calls, &SEEDS))
     }
 

@@ -29,25 +29,28 @@ pub fn rewrite(program: &Path) -> Result<Call, String> {
     call("rewrite", program, 128, rewritten)
 }
 
+/// A program's file, if it is there.
+pub fn found(name: &str, program: &Path) -> Result<PathBuf, String> {
+    let missing = || format!("{} isn't there: ./build {name} makes it", program.display());
+    program.is_file().then(|| program.into()).ok_or_else(missing)
+}
+
 /// A program as a call. It is a process each time, so few inputs are given to it.
 fn call(name: &'static str, program: &Path, one_in: u64, wanted: Wanted) -> Result<Call, String> {
-    if !program.is_file() {
-        return Err(format!("{} isn't there: ./build {name} makes it", program.display()));
-    }
-    let program: PathBuf = program.into();
+    let program = found(name, program)?;
     let give = move |lot: &mut Lot, input: &[u8]| compare(&program, &sheet(lot, input), wanted);
     Ok(Call::new(name, Shape::Sheet, one_in, &NUMBERS, give))
 }
 
 fn compare(program: &Path, sheet: &[u8], wanted: Wanted) -> Tried {
     let number = records(sheet).map_or_else(Cause::number, |_| 0);
-    let wanted = wanted(sheet);
+    let wanted = Printed::whole(wanted(sheet));
     let fault = match started(program, sheet) {
         Ok(output) => fault(&output, &wanted),
         Err(error) => Some(format!("the program can't be run: {error}")),
     };
     let told = |what: String| Told::new(&what).bytes("sheet", sheet).text();
-    let sum = wanted.iter().fold(0u8, |sum, byte| sum.rotate_left(3) ^ byte);
+    let sum = wanted.stdout.iter().fold(0u8, |sum, byte| sum.rotate_left(3) ^ byte);
     Tried { compared: Compared { number, difference: fault.map(told) }, features: features(&[sum % 16]) }
 }
 
@@ -61,15 +64,28 @@ fn started(program: &Path, sheet: &[u8]) -> std::io::Result<Output> {
     child.wait_with_output()
 }
 
+/// What a program prints, with the exit status 0.
+pub struct Printed {
+    pub stdout: Vec<u8>,
+    pub stderr: String,
+}
+
+impl Printed {
+    /// On standard output alone.
+    pub fn whole(stdout: Vec<u8>) -> Printed {
+        Printed { stdout, stderr: String::new() }
+    }
+}
+
 /// What is wrong with what the program gives, if anything is.
-fn fault(output: &Output, wanted: &[u8]) -> Option<String> {
+pub fn fault(output: &Output, wanted: &Printed) -> Option<String> {
     let Output { status, stdout, stderr } = output;
-    if !status.success() || !stderr.is_empty() {
+    if !status.success() || stderr != wanted.stderr.as_bytes() {
         let said = String::from_utf8_lossy(stderr);
         return Some(format!("{status}, on standard error {said:?}"));
     }
-    let [wanted_text, printed] = [wanted, stdout].map(|bytes| bytes.escape_ascii());
-    (stdout != wanted).then(|| format!("peer prints \"{wanted_text}\", the program \"{printed}\""))
+    let [wanted_text, printed] = [&wanted.stdout, stdout].map(|bytes| bytes.escape_ascii());
+    (*stdout != wanted.stdout).then(|| format!("peer prints \"{wanted_text}\", the program \"{printed}\""))
 }
 
 #[cfg(test)]
@@ -84,14 +100,18 @@ mod tests {
 
     #[test]
     fn what_is_found_in_an_output() {
-        let wanted = b"refused 1\n";
+        let wanted = &Printed::whole(b"refused 1\n".to_vec());
         assert_eq!(fault(&output(0, "refused 1\n", ""), wanted), None);
         let other = fault(&output(0, "refused 1", ""), wanted).unwrap();
         assert_eq!(other, r#"peer prints "refused 1\n", the program "refused 1""#);
         assert!(fault(&output(0, "refused 1\n", "x"), wanted).is_some());
         assert!(fault(&output(256, "refused 1\n", ""), wanted).is_some());
         assert!(fault(&output(11, "refused 1\n", ""), wanted).is_some());
-        let other = fault(&output(0, "\x04\x01", ""), &[4, 255]).unwrap();
+        let said = &Printed { stdout: vec![], stderr: "why\n".to_string() };
+        assert_eq!(fault(&output(0, "", "why\n"), said), None);
+        assert_eq!(fault(&output(0, "", "why"), said).unwrap(), r#"exit status: 0, on standard error "why""#);
+        assert!(fault(&output(0, "x", "why\n"), said).is_some());
+        let other = fault(&output(0, "\x04\x01", ""), &Printed::whole(vec![4, 255])).unwrap();
         assert_eq!(other, r#"peer prints "\x04\xff", the program "\x04\x01""#);
     }
 
