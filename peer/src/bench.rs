@@ -4,9 +4,11 @@
 
 use std::hint::black_box;
 
+use crate::by_round::check_by_round;
 use crate::exchange::alone;
 use crate::ffi::{self, Handed, ReadOnly};
 use crate::line::{Header, Line, Marks, SILENCE};
+use crate::logs::Logged;
 use crate::lot::Lot;
 use crate::rehearsal::rehearse;
 use crate::sheet::{self, Record, HEADER_LEN, RECORDS, RECORD_LEN};
@@ -158,6 +160,22 @@ fn written(count: usize, bad: u8, scattered: bool) -> [Nanoseconds; 3] {
     timed
 }
 
+/// Checking a run's log. The floor is copying it.
+fn checked(n: u8, bad: u8) -> [Nanoseconds; 3] {
+    let (header, line) = line_of(n, bad);
+    let logged = Logged::of_run(&header, &Lot(1).table(&line));
+    let Logged { numbers, sender, log, outcomes } = &logged;
+    let (mut handed, mut handed_outcomes, mut copied) = (log.clone(), outcomes.clone(), log.clone());
+    let mut verified = || {
+        let log = ReadOnly(Handed::all(black_box(&mut handed)));
+        let outcomes = ReadOnly(Handed::all(black_box(&mut handed_outcomes)));
+        ffi::check(black_box(*numbers), *sender, log, outcomes)
+    };
+    let by_round = || check_by_round(black_box(*numbers), *sender, black_box(log), black_box(outcomes));
+    assert_eq!((verified(), by_round()), (header.marks.0.into(), Ok(header.marks)), "the checks differ");
+    time_in_turn(SAMPLES, [sample(verified), sample(by_round), copy(log, &mut copied)])
+}
+
 /// A station of the largest line takes a row in this round. The floor is copying the row.
 fn step(round: u8) -> [Nanoseconds; 3] {
     let (header, line) = largest(10);
@@ -200,6 +218,11 @@ pub fn report(say: &mut impl FnMut(String)) {
         let how = if scattered { "scattered" } else { "records" };
         let name = format!("writer, n 32, {bad} marked, {count} {how}");
         say(line(&name, written(count, bad, scattered)));
+    }
+    for (n, some) in [(32, 10), (31, 10), (16, 5), (7, 2)] {
+        for bad in [0, some, n] {
+            say(line(&format!("checker, n {n}, t {}, {bad} marked", (n - 1) / 3), checked(n, bad)));
+        }
     }
     for (round, name) in [(1, "sender's"), (2, "exchange's first"), (3, "exchange's second"), (4, "king's")] {
         say(line(&format!("station, row of 32, {name}"), step(round)));

@@ -76,14 +76,22 @@ fn count(line: &Line, said: &[u8], wanted: &PerStation) -> PerStation {
 /// Steps 1 and 2 at every receiver: each one's z from the first round's n·n bytes. A byte other than 0 or 1 equals
 /// no good station's x.
 pub fn hear_first(line: &Line, said: &[u8], x: &PerStation) -> PerStation {
-    let equal = count(line, said, x);
+    z_of_all(line, x, &count(line, said, x))
+}
+
+/// Step 2 at every receiver, by how many ballots equal its x.
+pub fn z_of_all(line: &Line, x: &PerStation, equal: &PerStation) -> PerStation {
     std::array::from_fn(|station| z_of(line, x[station], equal[station]))
 }
 
 /// Steps 3 to 5 at every receiver: each one's y and grade from the second round's n·n bytes.
 pub fn hear_second(line: &Line, said: &[u8]) -> (PerStation, PerStation) {
+    graded_of_all(line, &count(line, said, &[0; STATIONS]), &count(line, said, &[1; STATIONS]))
+}
+
+/// Steps 4 and 5 at every receiver, by its zeros and ones.
+pub fn graded_of_all(line: &Line, zeros: &PerStation, ones: &PerStation) -> (PerStation, PerStation) {
     let n = line.n() as u8;
-    let (zeros, ones) = (count(line, said, &[0; STATIONS]), count(line, said, &[1; STATIONS]));
     let (mut y, mut grade) = ([0; STATIONS], [0; STATIONS]);
     for station in 0..line.n() {
         let (a, b) = (zeros[station], ones[station]);

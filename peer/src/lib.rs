@@ -9,6 +9,7 @@
 pub mod audit;
 #[cfg(feature = "verified")]
 pub mod bench;
+pub mod by_round;
 pub mod check;
 #[cfg(feature = "verified")]
 pub mod compare;

@@ -9,7 +9,7 @@ pub(crate) struct Stations<'a> {
     header: &'a Header,
     /// x; after the second round of an exchange, y.
     pub value: PerStation,
-    z: PerStation,
+    pub z: PerStation,
     pub grade: PerStation,
 }
 

@@ -3,13 +3,18 @@
 mod common;
 
 use common::{header, Lot};
-use peer::check::{check, check_by_round};
+use peer::by_round::check_by_round;
+use peer::check::check;
 use peer::line::{Cause, Header, Line, Marks};
 use peer::logs::{draw, Logged};
 use peer::rehearsal::rehearse;
 
+/// The set, plainly and round by round.
 fn broke(logged: &Logged) -> u32 {
-    logged.checked().expect("a log of its line").0
+    let Logged { numbers, sender, log, outcomes } = logged;
+    let set = check(*numbers, *sender, log, outcomes);
+    assert_eq!(check_by_round(*numbers, *sender, log, outcomes), set, "{logged:?}");
+    set.expect("a log of its line").0
 }
 
 fn line(logged: &Logged) -> Line {
@@ -136,20 +141,14 @@ fn the_least_marking() {
     assert!(sizes.iter().all(|&many| many > 50), "{sizes:?}");
 }
 
-/// On lines of every length, by the rehearsal and round by round.
+/// On lines of every length.
 #[test]
-fn the_same_set_by_other_ways() {
+fn the_same_set_by_rehearsals() {
     let mut lot = Lot(32);
     for (most, many) in [(1, 300), (4, 3_000), (9, 1_000), (32, 60)] {
         for _ in 0..many {
-            let mut logged = draw(&mut lot, most);
-            let set = broke(&logged);
-            assert_eq!(by_rehearsals(&logged), set, "{logged:?}");
-            logged.log.resize(lot.near(logged.log.len()), 0);
-            logged.outcomes.resize(lot.near(logged.outcomes.len()), 0);
-            let Logged { numbers, sender, log, outcomes } = &logged;
-            let by_round = check_by_round(*numbers, *sender, log, outcomes);
-            assert_eq!(by_round, logged.checked(), "{logged:?}");
+            let logged = draw(&mut lot, most);
+            assert_eq!(broke(&logged), by_rehearsals(&logged), "{logged:?}");
         }
     }
 }

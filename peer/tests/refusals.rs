@@ -3,7 +3,8 @@
 mod common;
 
 use common::Lot;
-use peer::check::{check, check_by_round};
+use peer::by_round::check_by_round;
+use peer::check::check;
 use peer::exchange::alone;
 use peer::line::{Cause, Header, Line, Marks, LARGEST_TABLE};
 use peer::rehearsal::rehearse;
