@@ -85,6 +85,9 @@ pub fn draw(lot: &mut Lot, most: u8) -> Logged {
     if lot.one_in(8) {
         logged.log = lot.table(&line);
     }
+    if lot.one_in(16) {
+        logged.outcomes = lot.ballots(&line, line.outcomes_len());
+    }
     while !lot.one_in(3) {
         logged.change(lot, &line);
     }
