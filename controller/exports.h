@@ -1,7 +1,8 @@
 /*
  * The calls on a whole line, in libexports.a: the reader and the writer of run
- * sheets, the rehearsal of a broadcast, the graded exchange had alone. A
- * controller needs none of them; the numbers of refusals are in vembopu.h.
+ * sheets, the rehearsal of a broadcast, the checker of logs, the graded exchange
+ * had alone. A controller needs none of them; the numbers of refusals are in
+ * vembopu.h.
  *
  * R = 3t + 6 is the number of rounds, vembopu_rounds(t). A table has the byte
  * for round r, from i, to j at ((r-1)*n + (i-1))*n + (j-1). Any byte may stand
@@ -10,12 +11,12 @@
  * station: value, grade 0 to 2, flag 0 or 1; a bad station's are 255.
  *
  * Each call answers with the number of the refusal, 0 if accepted;
- * vembopu_sheet_len and vembopu_write in the upper 32 of 64 bits, as the
- * station's calls do. Any content may be handed in. A call reads nothing but
- * its arguments and the bytes that they point to, keeps nothing, and the same
- * arguments always give the same answer and the same bytes. It writes only what
- * is said below; if it is refused, every byte is as it was. It calls nothing
- * but memcpy and memset, which it takes from the C library.
+ * vembopu_sheet_len, vembopu_write and vembopu_check in the upper 32 of 64
+ * bits, as the station's calls do. Any content may be handed in. A call reads
+ * nothing but its arguments and the bytes that they point to, keeps nothing,
+ * and the same arguments always give the same answer and the same bytes. It
+ * writes only what is said below; if it is refused, every byte is as it was. It
+ * calls nothing but memcpy and memset, which it takes from the C library.
  *
  * A pointer has to point to as many bytes as its length says, which nobody else
  * writes during the call. It may be NULL only if that length is 0. No call
@@ -43,6 +44,7 @@ enum {
     VEMBOPU_STACK_SHEET_LEN = 256,
     VEMBOPU_STACK_WRITE = 512,
     VEMBOPU_STACK_REHEARSE = 1152,
+    VEMBOPU_STACK_CHECK = 1152,
     VEMBOPU_STACK_EXCHANGE = 3328
 };
 
@@ -157,6 +159,46 @@ uint8_t vembopu_rehearse(uint8_t n, uint8_t t, uint8_t upper, uint8_t sender,
                          const uint8_t *table, size_t table_len,
                          uint8_t *log, size_t log_len,
                          uint8_t *outcomes, size_t outcomes_len);
+
+/*
+ * Checks the log of a run and its outcomes, whoever's program made them: gives
+ * the set of the stations that broke the rules.
+ *
+ * n, t, upper   as in vembopu.h
+ * sender        1 to n
+ * log           laid out like a run table: what each station sent to each in
+ *               each round, 255 where it sent nothing. Only read.
+ * outcomes      what each station ended with, three bytes a station. Only read.
+ * log_len       R*n*n
+ * outcomes_len  3*n
+ *
+ * A station is in the set exactly if no value of its own, 0 or 1, with the rows
+ * that it received in the log, makes it send its logged bytes, to all and in
+ * every round, and end with its logged outcome. Its own value matters only at
+ * the sender. As marks, the set is the least under which the log is a run, with
+ * the outcomes of unmarked stations as logged; if vembopu_rehearse wrote the two
+ * buffers, it is the marks that were handed to it.
+ *
+ * It speaks of this log alone: a station that isn't in the set kept the rules in
+ * it, and may break them in another run. Whether the log is true to what was
+ * sent, the call can't tell.
+ *
+ * Answers with 64 bits: in the upper 32 the number of the refusal, 0 if
+ * accepted; in the lower 32 the set as marks, 0 if refused.
+ * Refused: the lowest of 2, 3, 4, 8.
+ */
+uint64_t vembopu_check(uint8_t n, uint8_t t, uint8_t upper, uint8_t sender,
+                       const uint8_t *log, size_t log_len,
+                       const uint8_t *outcomes, size_t outcomes_len);
+
+/* Of vembopu_check: the stations that broke the rules, as marks; 0 if refused,
+   and if there are none. */
+static inline uint32_t vembopu_broke(uint64_t answer)
+{
+    if (vembopu_refusal(answer) != 0)
+        return 0;
+    return (uint32_t)(answer & 0xffffffffu);
+}
 
 /*
  * The graded exchange of a whole line.

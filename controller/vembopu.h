@@ -65,8 +65,8 @@
  * tell theirs: take them and the headers from one version.
  */
 #define VEMBOPU_VERSION_MAJOR 1
-#define VEMBOPU_VERSION_MINOR 2
-#define VEMBOPU_VERSION "1.2"
+#define VEMBOPU_VERSION_MINOR 3
+#define VEMBOPU_VERSION "1.3"
 
 #ifdef __cplusplus
 extern "C" {
@@ -273,8 +273,8 @@ static inline uint32_t vembopu_state_of(const struct vembopu_station *s)
  * the calls that it names: an accepted open's would pass for a done result.
  */
 
-/* Of any call on numbers, and of vembopu_sheet_len and vembopu_write: the
-   refusal number, 0 if accepted. Ask this first. */
+/* Of any call on numbers, and of vembopu_sheet_len, vembopu_write and
+   vembopu_check: the refusal number, 0 if accepted. Ask this first. */
 static inline uint32_t vembopu_refusal(uint64_t answer)
 {
     return (uint32_t)(answer >> 32);
