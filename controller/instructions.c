@@ -20,6 +20,13 @@ static uint32_t rehearse(uint32_t marks)
     return vembopu_rehearse(32, 10, 10, 1, 1, marks, table, TABLE, logged, TABLE, outcomes, OUTCOMES);
 }
 
+/* The log of a rehearsal: the marked stations are those that broke the rules. */
+static uint32_t check_log(uint32_t marks)
+{
+    rehearse(marks);
+    return vembopu_refusal(vembopu_check(32, 10, 10, 1, logged, TABLE, outcomes, OUTCOMES));
+}
+
 static uint32_t exchange(uint32_t marks)
 {
     return vembopu_exchange(32, 10, 10, marks, row, INPUTS, table, EXCHANGE_TABLE, outcomes, OUTCOMES);
@@ -125,6 +132,9 @@ static const struct {
     {"vembopu_rehearse", "none marked", TABLE, "ballot", rehearse, 0},
     {"vembopu_rehearse", "10 marked", TABLE, "ballot", rehearse, 0x3ffu},
     {"vembopu_rehearse", "32 marked", TABLE, "ballot", rehearse, 0xffffffffu},
+    {"vembopu_check", "none marked", TABLE, "ballot", check_log, 0},
+    {"vembopu_check", "10 marked", TABLE, "ballot", check_log, 0x3ffu},
+    {"vembopu_check", "32 marked", TABLE, "ballot", check_log, 0xffffffffu},
     {"vembopu_exchange", "none marked", EXCHANGE_TABLE, "ballot", exchange, 0},
     {"vembopu_exchange", "10 marked", EXCHANGE_TABLE, "ballot", exchange, 0x3ffu},
     {"vembopu_exchange", "32 marked", EXCHANGE_TABLE, "ballot", exchange, 0xffffffffu},
