@@ -9,12 +9,12 @@
 #include "exports.h"
 #include "inputs.h"
 
-enum { READ, SHEET_LEN, WRITE, REHEARSE, EXCHANGE };
+enum { READ, SHEET_LEN, WRITE, REHEARSE, CHECK, EXCHANGE };
 enum { BUFFERS = 3, UNWRITTEN = 170 };
 
-static const char *const call_name[] = {"vembopu_read", "vembopu_sheet_len", "vembopu_write", "vembopu_rehearse",
-                                        "vembopu_exchange"};
-static const int buffers[] = {2, 2, 3, 3, 3};
+static const char *const call_name[] = {"vembopu_read",     "vembopu_sheet_len", "vembopu_write",
+                                        "vembopu_rehearse", "vembopu_check",     "vembopu_exchange"};
+static const int buffers[] = {2, 2, 3, 3, 2, 3};
 
 /* One call. The content of a buffer that the call writes is NULL. */
 struct trial {
@@ -41,6 +41,8 @@ static int run(const struct trial *x, uint8_t *const at[])
     case REHEARSE:
         return vembopu_rehearse(x->n, x->t, x->T, x->sender, x->value, x->marks, at[0], x->len[0], at[1], x->len[1],
                                 at[2], x->len[2]);
+    case CHECK:
+        return (int)vembopu_refusal(vembopu_check(x->n, x->t, x->T, x->sender, at[0], x->len[0], at[1], x->len[1]));
     default:
         return vembopu_exchange(x->n, x->t, x->T, x->marks, at[0], x->len[0], at[1], x->len[1], at[2], x->len[2]);
     }
@@ -192,6 +194,18 @@ static void rehearsals(void)
     }
 }
 
+/* A log and outcomes of any bytes, both only read. */
+static void checks(void)
+{
+    for (size_t i = 0; i < COUNT(check_inputs); i++) {
+        const struct check_input *in = &check_inputs[i];
+        struct trial x = {.call = CHECK, .n = in->n, .t = in->t, .T = in->T, .sender = in->sender,
+                          .content = {ballots, ballots}, .len = {in->log_len, in->outcomes_len},
+                          .number = in->number};
+        try_one(&x);
+    }
+}
+
 static void exchanges(void)
 {
     for (size_t i = 0; i < COUNT(exchange_inputs); i++) {
@@ -216,6 +230,7 @@ int main(void)
     writings();
     null_and_too_many();
     rehearsals();
+    checks();
     exchanges();
     return closing_count();
 }

@@ -1,9 +1,9 @@
 /*
  * The headers' helpers on answers of every kind: refused by each number, running
  * in each round, done with each value and grade, every ballot, sheets of few
- * and of many records; as the library answers, and with any bytes below a
- * refusal. Then the number of rounds, the state of a refused open, and the
- * version.
+ * and of many records, logs of which none, one and all broke the rules; as the
+ * library answers, and with any bytes below a refusal. Then the number of
+ * rounds, the state of a refused open, and the version.
  */
 #define _DEFAULT_SOURCE
 #include "check.h"
@@ -54,7 +54,8 @@ static int undecided(uint64_t a)
 static int held_refused(uint64_t a, uint32_t number)
 {
     const struct parts want = {number, NONE, 0, 0, 0, NONE, NONE, NONE};
-    return held(a, want) && undecided(a) && vembopu_needed_bytes(a) == 0 && vembopu_records(a) == 0;
+    return held(a, want) && undecided(a) && vembopu_needed_bytes(a) == 0 && vembopu_records(a) == 0 &&
+           vembopu_broke(a) == 0;
 }
 
 /* ---- Refused ---- */
@@ -149,7 +150,7 @@ static void zero(void)
 
 /* ---- The writer ---- */
 
-static uint8_t header[HEADER], table[TABLE], sheet[SHEET];
+static uint8_t header[HEADER], table[TABLE], sheet[SHEET], logged[TABLE];
 
 /* The bytes needed and the records of a table that has so many. */
 static void sheet_of(uint32_t k)
@@ -174,6 +175,29 @@ static void sheets(void)
     make_table(table, MOST_RECORDS + 1);
     check(held_refused(vembopu_sheet_len(header, HEADER, table, TABLE), 14), "the bytes of too many");
     check(held_refused(vembopu_write(header, HEADER, table, TABLE, sheet, SHEET), 14), "too many");
+}
+
+/* ---- The checker ---- */
+
+/* The set of a log that is rehearsed with these marks, and of a byte less. */
+static void broke(uint32_t marks)
+{
+    uint8_t outcomes[OUTCOMES];
+    make_table(table, 0);
+    vembopu_rehearse(32, 10, 10, 1, 1, marks, table, TABLE, logged, TABLE, outcomes, OUTCOMES);
+    uint64_t a = vembopu_check(32, 10, 10, 1, logged, TABLE, outcomes, OUTCOMES);
+    check(vembopu_refusal(a) == 0 && vembopu_broke(a) == marks, "%08x broke the rules: %llx", marks,
+          (unsigned long long)a);
+    a = vembopu_check(32, 10, 10, 1, logged, TABLE, outcomes, OUTCOMES - 1);
+    check(held_refused(a, 8), "%08x: a byte short", marks);
+}
+
+static void sets(void)
+{
+    broke(0);
+    for (int i = 0; i < 32; i++)
+        broke((uint32_t)1 << i);
+    broke(0xffffffffu);
 }
 
 /* ---- A refused open's state ---- */
@@ -234,6 +258,7 @@ int main(void)
     ballots();
     zero();
     sheets();
+    sets();
     after_refused_open();
     number_of_rounds();
     version();

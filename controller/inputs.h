@@ -126,6 +126,23 @@ static const struct rehearse_input rehearse_inputs[] = {
     {32, 10, 10, 1, 1, 0, TABLE, TABLE, OUTCOMES - 1, 8},
 };
 
+struct check_input {
+    uint8_t n, t, T, sender;
+    size_t log_len, outcomes_len;
+    int number;
+};
+
+static const struct check_input check_inputs[] = {
+    {32, 10, 10, 1, TABLE, OUTCOMES, 0},
+    {32, 0, 15, 32, 6 * 32 * 32, OUTCOMES, 0},
+    {1, 0, 0, 1, 6, 3, 0},
+    {33, 10, 10, 1, TABLE, OUTCOMES, 2},
+    {32, 11, 11, 1, TABLE, OUTCOMES, 3},
+    {32, 10, 10, 33, TABLE, OUTCOMES, 4},
+    {32, 10, 10, 1, TABLE - 1, OUTCOMES, 8},
+    {32, 10, 10, 1, TABLE, OUTCOMES - 1, 8},
+};
+
 /* An exchange in which station 1 has the input given here. */
 struct exchange_input {
     uint8_t n, t, T, input;

@@ -1,8 +1,8 @@
 /*
- * The station's calls and the writer's written once more, in C from documents
- * 01 and 02 (Tickets 1 and 2), for the tests: the judgement, the steps of a
- * station that is accepted, and the sheet that is written. Shares no code with
- * the library.
+ * The station's calls, the writer's and the checker's written once more, in C
+ * from documents 01 and 02 (Tickets 1 to 3), for the tests: the judgement, the
+ * steps of a station that is accepted, the sheet that is written, and the set of
+ * stations that broke the rules. Shares no code with the library.
  */
 #ifndef MODEL_H
 #define MODEL_H
@@ -293,6 +293,63 @@ static inline uint64_t model_write(const struct writing *w, uint8_t *sheet)
     sheet[7] = 0;
     put_records(w, sheet + 12);
     return answer(0, (uint32_t)records_of(w));
+}
+
+/* ---- The checker of logs: document 02, Ticket 3 ---- */
+
+struct checking {
+    int n, t, T, sender;
+    const uint8_t *log;
+    size_t log_len;
+    const uint8_t *outcomes;
+    size_t outcomes_len;
+};
+
+static inline int judge_check(const struct checking *k)
+{
+    struct call c = {k->n, k->t, k->T, k->sender, k->sender, 0, 0, 0, 0, 0, NULL, 0};
+    int number = judge_numbers(&c);
+    if (number != 0)
+        return number;
+    if (k->log_len != (size_t)(rounds(k->t) * k->n * k->n) || k->outcomes_len != (size_t)(3 * k->n))
+        return 8;
+    return 0;
+}
+
+static inline uint8_t logged_byte(const struct checking *k, int round, int from, int to)
+{
+    return k->log[((round - 1) * k->n + (from - 1)) * k->n + (to - 1)];
+}
+
+/* 1 if this value of its own, "with the rows it received, makes it send its
+   logged bytes and end with its logged outcome" */
+static inline int keeps_rules(const struct checking *k, int own, int value)
+{
+    uint8_t row[32];
+    struct call c = {k->n, k->t, k->T, k->sender, own, value, 1, value, 2, 0, row, (size_t)k->n};
+    const uint8_t *end = k->outcomes + 3 * (own - 1);
+    int sent = 1;
+    while (c.round <= rounds(c.t)) {
+        for (int other = 1; other <= c.n; other++) {
+            sent = sent && logged_byte(k, c.round, own, other) == ballot_of(&c);
+            row[other - 1] = logged_byte(k, c.round, other, own);
+        }
+        take_row(&c);
+    }
+    return sent && end[0] == c.x && end[1] == c.grade && end[2] == (c.grade < 2);
+}
+
+/* "A station is in it exactly if no value of its own" does. */
+static inline uint64_t model_check(const struct checking *k)
+{
+    uint32_t set = 0;
+    int number = judge_check(k);
+    if (number != 0)
+        return answer(number, 0);
+    for (int own = 1; own <= k->n; own++)
+        if (!keeps_rules(k, own, 0) && !keeps_rules(k, own, 1))
+            set |= (uint32_t)1 << (own - 1);
+    return answer(0, set);
 }
 
 #endif

@@ -92,6 +92,11 @@ static uint64_t run_rehearse(struct arguments *a)
     return vembopu_rehearse(NUMBERS(a), a->marks, BUFFER(a, 0), BUFFER(a, 1), BUFFER(a, 2));
 }
 
+static uint64_t run_check(struct arguments *a)
+{
+    return vembopu_check(a->byte[0], a->byte[1], a->byte[2], a->byte[3], BUFFER(a, 0), BUFFER(a, 1));
+}
+
 static uint64_t run_exchange(struct arguments *a)
 {
     return vembopu_exchange(a->byte[0], a->byte[1], a->byte[2], a->marks, BUFFER(a, 0), BUFFER(a, 1), BUFFER(a, 2));
@@ -114,10 +119,11 @@ static const struct call {
     {"vembopu_sheet_len", run_sheet_len, 0, 0, 2, {0, 0}, {0, 0}},
     {"vembopu_write", run_write, 0, 0, 3, {0, 0}, {0, 0}},
     {"vembopu_rehearse", run_rehearse, 5, 0, 3, {0, 0}, {0, 1}},
+    {"vembopu_check", run_check, 4, 0, 2, {0, 0}, {0, 0}},
     {"vembopu_exchange", run_exchange, 3, 0, 3, {0, 0}, {0, 0}},
 };
 
-enum { OPEN, BALLOT, ADVANCE, RESULT, ADVANCE_LENT, READ, SHEET_LEN, WRITE, REHEARSE, EXCHANGE, CALLS };
+enum { OPEN, BALLOT, ADVANCE, RESULT, ADVANCE_LENT, READ, SHEET_LEN, WRITE, REHEARSE, CHECK, EXCHANGE, CALLS };
 
 /* ---- The examples ---- */
 
@@ -206,6 +212,11 @@ static const struct example examples[] = {
      .len = {sizeof b_table, sizeof b_log, sizeof b_outcomes}, .after = {NULL, b_log, b_outcomes}},
     {.call = REHEARSE, .byte = {4, 0, 1, 3, 1}, .marks = 0, .before = {good_table},
      .len = {sizeof good_table, sizeof good_log, sizeof good_outcomes}, .after = {NULL, good_log, good_outcomes}},
+    /* station 4, whose outcome is 255; nobody */
+    {.call = CHECK, .byte = {4, 0, 1, 4}, .before = {b_log, b_outcomes}, .len = {sizeof b_log, sizeof b_outcomes},
+     .answer = 8},
+    {.call = CHECK, .byte = {4, 0, 1, 3}, .before = {good_log, good_outcomes},
+     .len = {sizeof good_log, sizeof good_outcomes}},
     {.call = EXCHANGE, .byte = {4, 0, 1}, .marks = 8, .before = {inputs, exchange_table},
      .len = {sizeof inputs, sizeof exchange_table, sizeof exchange_outcomes},
      .after = {NULL, NULL, exchange_outcomes}},

@@ -67,6 +67,7 @@ static struct vembopu_station lent, lent_before;
 static const struct read_input *reading;
 static const struct write_input *writing;
 static const struct rehearse_input *rehearsing;
+static const struct check_input *checking;
 static const struct exchange_input *exchanging;
 static uint8_t row[INPUTS], header[HEADER + RECORD], sheet[SHEET + RECORD];
 static uint8_t table[TABLE], logged[TABLE], outcomes[OUTCOMES];
@@ -124,6 +125,12 @@ static void rehearse(void)
                               i->log_len, outcomes, i->outcomes_len);
 }
 
+static void check_log(void)
+{
+    const struct check_input *i = checking;
+    number = vembopu_refusal(vembopu_check(i->n, i->t, i->T, i->sender, logged, i->log_len, outcomes, i->outcomes_len));
+}
+
 static void exchange(void)
 {
     const struct exchange_input *i = exchanging;
@@ -146,10 +153,11 @@ static struct measured {
     {"vembopu_sheet_len", sheet_bytes, VEMBOPU_STACK_SHEET_LEN, 0, 0, 0, 0},
     {"vembopu_write", write_sheet, VEMBOPU_STACK_WRITE, 0, 0, 0, 0},
     {"vembopu_rehearse", rehearse, VEMBOPU_STACK_REHEARSE, 0, 0, 0, 0},
+    {"vembopu_check", check_log, VEMBOPU_STACK_CHECK, 0, 0, 0, 0},
     {"vembopu_exchange", exchange, VEMBOPU_STACK_EXCHANGE, 0, 0, 0, 0},
 };
 
-enum { OPEN, BALLOT, ADVANCE, RESULT, LENT, READ, SHEET_LEN, WRITE, REHEARSE, EXCHANGE };
+enum { OPEN, BALLOT, ADVANCE, RESULT, LENT, READ, SHEET_LEN, WRITE, REHEARSE, CHECK, EXCHANGE };
 
 /* ---- Measuring ---- */
 
@@ -235,6 +243,19 @@ static void rehearsals(void)
     }
 }
 
+/* Every input with the largest line's log, in which all keep the rules, and with
+   one in which none does. */
+static void checks(void)
+{
+    for (size_t i = 0; i < 2 * COUNT(check_inputs); i++) {
+        checking = &check_inputs[i / 2];
+        vembopu_rehearse(32, 10, 10, 1, 1, 0, table, TABLE, logged, TABLE, outcomes, OUTCOMES);
+        if (i % 2 == 1)
+            memset(logged, 7, sizeof logged);
+        measure(CHECK, checking->number);
+    }
+}
+
 static void exchanges(void)
 {
     for (size_t i = 0; i < COUNT(exchange_inputs); i++) {
@@ -261,6 +282,7 @@ int main(void)
     sheets();
     writings();
     rehearsals();
+    checks();
     exchanges();
     for (size_t i = 0; i < COUNT(calls); i++)
         hold_to_limit(&calls[i]);
