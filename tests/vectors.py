@@ -1,5 +1,5 @@
 #!/usr/bin/env python3
-"""Holds every exported call and the programs agree and rewrite to the conformance vectors of vectors/ (vectors/README.md has their form).
+"""Holds every exported call and the programs agree, rewrite and audit to the conformance vectors of vectors/ (vectors/README.md has their form).
 
 A call is handed each buffer with bytes around it that must stay as they are; so must what it may only read, and in a refused call every
 buffer. Then the test itself is tried: on copies of the vectors with a wrong answer planted in each, on calls that write where they may not or
@@ -18,7 +18,8 @@ import sheet as sheets
 from counting import built, closing
 
 TOP = pathlib.Path(__file__).resolve().parent.parent
-VECTORS, PROGRAM, REWRITE = TOP / "vectors", TOP / "target" / "bin" / "agree", TOP / "target" / "bin" / "rewrite"
+VECTORS = TOP / "vectors"
+PROGRAM, REWRITE, AUDIT = PROGRAMS = [TOP / "target" / "bin" / name for name in ("agree", "rewrite", "audit")]
 LIBRARIES = "exports", "controller", "lent"
 LINE, STATION, STATE = ("n", "t", "T"), ("n", "t", "T", "sender", "own"), ("round", "value", "z", "grade")
 AROUND, WORD = 64, 2 ** 32
@@ -79,7 +80,7 @@ class Library:
         self.declare(byte, vembopu_rehearse=[byte] * 5 + [word] + buffer * 3)
         self.declare(ctypes.c_uint64, vembopu_open=station + [byte], vembopu_advance=station + [word] + buffer)
         self.declare(ctypes.c_uint64, vembopu_ballot=station + [word], vembopu_result=station + [word])
-        self.declare(ctypes.c_uint64, vembopu_sheet_len=buffer * 2, vembopu_write=buffer * 3)
+        self.declare(ctypes.c_uint64, vembopu_sheet_len=buffer * 2, vembopu_write=buffer * 3, vembopu_check=[byte] * 4 + buffer * 2)
 
     def declare(self, answer, **calls):
         for name, arguments in calls.items():
@@ -152,6 +153,14 @@ def rehearse(library, args):
     return answer(library.call("vembopu_rehearse", *numbers, *table, *made), table, made)
 
 
+def check(library, args):
+    numbers, inputs = [args[name] for name in (*LINE, "sender")], given(args, "log", "outcomes")
+    refused, marks = divmod(library.call("vembopu_check", *numbers, *inputs), WORD)
+    if refused and marks:
+        raise Fault(f"vembopu_check: {marks} with a refusal")
+    return answer(refused, inputs, []) or {"marks": marks}
+
+
 class Station:
     """A station by its numbers and its state."""
 
@@ -216,7 +225,7 @@ def station_state(library, args):
     return {"refusals": {**refusals, "row": one.take(bytes.fromhex(args["row_bytes"]))}}
 
 
-CALLS = {call.__name__: call for call in (read, write, exchange, rehearse, station, station_state)}
+CALLS = {call.__name__: call for call in (read, write, exchange, rehearse, check, station, station_state)}
 
 
 def call_fault(library, vector):
@@ -228,9 +237,9 @@ def call_fault(library, vector):
     return None if made == vector["want"] else f"gives {made}, wanted is {vector['want']}"
 
 
-def ran(program, data):
-    """How a program ends that is given these bytes: its status, and what it writes to standard output and standard error."""
-    done = subprocess.run([program], input=data, capture_output=True)
+def ran(program, data, words=()):
+    """How a program ends that is given these bytes and words: its status, and what it writes to standard output and standard error."""
+    done = subprocess.run([program, *words], input=data, capture_output=True)
     return done.returncode, done.stdout, done.stderr
 
 
@@ -270,6 +279,36 @@ def rewrite_fault(library, program, vector):
     if "listing" in vector:
         return listing_fault(PROGRAM, {**vector, "sheet": normal.hex()})
     return call_fault(library, {**vector, "args": {**args, "sheet": normal.hex()}})
+
+
+def audit(args):
+    """How the program ends that is given the numbers of a check, and the names of files with its log and its outcomes."""
+    with tempfile.TemporaryDirectory() as folder:
+        files = [pathlib.Path(folder) / name for name in ("log", "outcomes")]
+        for file in files:
+            file.write_bytes(bytes.fromhex(args[file.name]))
+        return ran(AUDIT, b"", [*(str(args[name]) for name in (*LINE, "sender")), *files])
+
+
+def audit_line(want):
+    """What the program prints where this is the answer of the call."""
+    if "refused" in want:
+        return f"refused {want['refused']}\n"
+    return "".join(["broke", *(f" {i}" for i in range(1, 33) if want["marks"] >> (i - 1) & 1), "\n"])
+
+
+def audit_fault(program, vector):
+    """What is wrong with what the program, a function of a check's arguments, prints of them, if anything is."""
+    made, wanted = program(vector["args"]), (0, audit_line(vector["want"]).encode(), b"")
+    return None if made == wanted else f"gives {made}, wanted is {wanted}"
+
+
+def rehearsed(calls):
+    """A check of the log and the outcomes of each rehearsal: it yields the marks."""
+    for place, vector in calls:
+        if vector["call"] == "rehearse" and "refused" not in vector["want"]:
+            args = {name: vector["args"][name] for name in (*LINE, "sender")} | vector["want"]
+            yield f"{place}, checked", {"call": "check", "args": args, "want": {"marks": vector["args"]["marks"]}}
 
 
 # ---- the test of the test
@@ -328,7 +367,13 @@ class Answering:
 
 BUFFERS = {
     "read": {"vembopu_read": 2}, "write": {"vembopu_sheet_len": 2, "vembopu_write": 3}, "exchange": {"vembopu_exchange": 3}, "rehearse": {"vembopu_rehearse": 3},
+    "check": {"vembopu_check": 2},
     "station": {"vembopu_advance": 1, "vembopu_advance_lent": 2}, "station_state": {"vembopu_advance": 1, "vembopu_advance_lent": 2},
+}
+
+ANSWERS = {
+    "write": (("vembopu_sheet_len", 8), ("vembopu_sheet_len", WORD), ("vembopu_write", 1), ("vembopu_write", WORD)),
+    "check": (("vembopu_check", 1), ("vembopu_check", WORD)),
 }
 
 
@@ -365,14 +410,14 @@ def own_checks(library, calls, listings):
         if vector["call"] != "station" or "refused" not in vector["want"]:
             for what, writing in writings(library, vector):
                 yield f"{name}: {what}", call_fault(writing, vector) is not None
-        if vector["call"] == "write":
-            for call, more in (("vembopu_sheet_len", 8), ("vembopu_sheet_len", WORD), ("vembopu_write", 1), ("vembopu_write", WORD)):
-                yield f"{name}: {call} with {more} more", call_fault(Answering(library, call, more), vector) is not None
+        for call, more in ANSWERS.get(vector["call"], ()):
+            yield f"{name}: {call} with {more} more", call_fault(Answering(library, call, more), vector) is not None
     for vector in listings[:3]:
         wrongs = [planted(vector, ("listing",)), {**vector, "listing": vector["listing"] + "\n"}, {**vector, "listing": ""}]
         yield "a wrong listing is told", told(wrongs, lambda one: listing_fault(PROGRAM, one)) == 3
     yield "another program is told", listing_fault("false", listings[0]) is not None
     yield from rewriting_checks(library, [vector for vector in calls if vector["call"] == "read"] + listings)
+    yield from auditing_checks([vector for vector in calls if vector["call"] == "check"])
 
 
 def rewriting_checks(library, vectors):
@@ -394,6 +439,21 @@ def rewriting_checks(library, vectors):
     yield "rewrite: wrong vectors are told", all(rewrite_fault(library, rewrite, one) is not None for one in wrongs)
 
 
+def auditing_checks(vectors):
+    """Other programs than audit, on a log in which stations broke the rules and one that is refused; and wrong vectors."""
+    broken, refused = (next(one for one in vectors if one["want"].get(kind)) for kind in ("marks", "refused"))
+    others = {
+        "that tells of nobody": lambda args: (0, b"broke\n", b""), "that refuses all": lambda args: (0, b"refused 99\n", b""),
+        "with a status": lambda args: (1, *audit(args)[1:]), "that says something": lambda args: (*audit(args)[:2], b"so"),
+        "without the line's end": lambda args: (0, audit(args)[1].rstrip(), b""), "with a line more": lambda args: (0, audit(args)[1] * 2, b""),
+    }
+    for name, other in others.items():
+        for kind, vector in ("broken", broken), ("refused", refused):
+            yield f"audit: a program {name}, {kind}", audit_fault(other, vector) is not None
+    wrongs = [planted(vector, ("want", *path)) for vector in vectors for path in leaves(vector["want"])]
+    yield f"audit: all of {len(wrongs)} wrong vectors are told", told(wrongs, lambda one: audit_fault(audit, one)) == len(wrongs) == len(vectors)
+
+
 # ---- all together
 
 
@@ -405,12 +465,16 @@ def lines(path):
 def checks(library):
     """A name and whether it holds, for each check."""
     calls, listings = (lines(VECTORS / name) for name in ("calls.jsonl", "listings.jsonl"))
-    faults = [(place, call_fault(library, vector)) for place, vector in calls]
+    logs = list(rehearsed(calls))
+    faults = [(place, call_fault(library, vector)) for place, vector in [*calls, *logs]]
     faults += [(place, listing_fault(PROGRAM, vector)) for place, vector in listings]
+    audits = [(place, vector) for place, vector in [*calls, *logs] if vector["call"] == "check"]
+    faults += [(f"{place}, by the program", audit_fault(audit, vector)) for place, vector in audits]
     again = [(place, vector) for place, vector in [*calls, *listings] if vector.get("call", "read") == "read"]
     faults += [(f"{place}, rewritten", rewrite_fault(library, rewrite, vector)) for place, vector in again]
     count = collections.Counter(vector["call"] for _, vector in calls)
-    print(f"{len(calls)} calls ({', '.join(f'{name} {number}' for name, number in count.items())}), {len(listings)} listings, {len(again)} sheets rewritten")
+    print(f"{len(calls)} calls ({', '.join(f'{name} {number}' for name, number in count.items())}), {len(listings)} listings, {len(again)} sheets rewritten, "
+          f"{len(audits)} logs checked, {len(logs)} of them rehearsed")
     for place, fault in faults:
         yield f"vectors/{place}: {fault}", fault is None
     yield from own_checks(library, [vector for _, vector in calls], [vector for _, vector in listings])
@@ -422,4 +486,4 @@ def main():
 
 
 if __name__ == "__main__":
-    sys.exit(not (built(PROGRAM) and built(REWRITE) and main()))
+    sys.exit(not (all(map(built, PROGRAMS)) and main()))
