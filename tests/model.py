@@ -1,4 +1,5 @@
-"""Document 01's steps with document 02's Ticket 2, for the tests: the graded exchange, the broadcast with its log, and the single station.
+"""Document 01's steps with document 02's Tickets 2 and 3, for the tests: the graded exchange, the broadcast with its log, the single station, and the checker of
+logs.
 
 Stations are counted from 0 and rounds from 1, as in the definitions of crate broadcast.
 """
@@ -140,3 +141,18 @@ class Station:
         if self.round == self.rules.rows_to_done(self.run.rounds) + 1:
             return self.value, self.grade, self.rules.flag(self.grade)
         return self.round
+
+
+def keeps_rules(log, own, value, outcome):
+    """Whether this value of its own, "with the rows it received, makes it send its logged bytes and end with its logged outcome". The log is a run's table."""
+    one, stations = Station(Rules, log, own, value), range(log.n)
+    for r in range(1, log.rounds + 1):
+        if any(log.entry(r, own, j) != one.ballot() for j in stations):
+            return False
+        one.take([log.entry(r, i, own) for i in stations])
+    return one.result() == outcome
+
+
+def broke(log, outcomes):
+    """The stations that broke the rules: "A station is in it exactly if no value of its own" does."""
+    return [i for i in range(log.n) if not any(keeps_rules(log, i, value, outcomes[i]) for value in (0, 1))]
