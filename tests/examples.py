@@ -1,17 +1,20 @@
 #!/usr/bin/env python3
-"""The examples: run sheets, each with the text that it stands for and its listing.
+"""The examples: run sheets, each with the text that it stands for and its listing; logs with outcomes, each with the stations that broke the rules.
 
 examples.py          writes the sheets and listings of examples/: the documents' cases A to D, a large run in which ten bad stations divide the good ones,
                      the longest listing, and an untidy sheet beside the tidy one that it is rewritten to. The texts are written by hand, the picture of
-                     case C by ./draw
+                     case C by ./draw. Then the logs and outcomes, of case A's run and of another maker's, with what the program audit prints of them
 examples.py --check  holds each sheet to the one made here and to its text, its listing to the model's, and what the program agree prints to the listing; then
                      some inputs of odd lengths. Holds what the program rewrite writes of all of these, and of the sheets of crate runs, to the model's normal
-                     form. The last line is 'N passed, M failed'
+                     form. Holds each log to the one made here, its set to the model's and to the least of all markings, and what the program audit prints to
+                     the set; then that program's odd uses. The last line is 'N passed, M failed'
 """
+import itertools
 import os
 import pathlib
 import subprocess
 import sys
+import tempfile
 
 import model
 import run_sheets
@@ -21,26 +24,50 @@ from counting import built, closing
 TOP = os.path.join(os.path.dirname(os.path.abspath(__file__)), "..")
 EXAMPLES = os.path.join(TOP, "examples")
 LONGEST_LISTING = 300
-PROGRAM, REWRITE = (os.path.join(TOP, "target", "bin", name) for name in ("agree", "rewrite"))
+PROGRAM, REWRITE, AUDIT = PROGRAMS = [os.path.join(TOP, "target", "bin", name) for name in ("agree", "rewrite", "audit")]
 # has no text: none gives records outside the chain
 UNTIDY = "untidy"
 
 
-# ---- a listing in Python, from the documents
+# ---- a listing and a set in Python, from the documents
 
 
-def listing(data):
+def run_of(data):
+    """The number of the cause by which a sheet is refused, or 0, and its run."""
     n, t = data[:2] if len(data) > 1 else (0, 0)
     cause, table = reader.read(data, [0] * min(reader.table_size(n, t), reader.LARGEST_TABLE))
     if cause:
-        return f"refused {cause}\n"
+        return cause, None
     n, t, T, sender, value, marks = reader.header(data)
-    bad = [bool(marks >> i & 1) for i in range(n)]
-    _, outcomes = model.broadcast(model.Rules, model.Run(n, t, T, sender - 1, value, bad, table))
-    lines = [f"agree {n} {t} {T} {sender} {3 * t + 6}"]
-    for i in range(n):
-        lines.append(" ".join([str(i + 1)] + (["-"] * 3 if bad[i] else [str(b) for b in outcomes[i]])))
+    return 0, model.Run(n, t, T, sender - 1, value, [bool(marks >> i & 1) for i in range(n)], table)
+
+
+def listing(data):
+    cause, run = run_of(data)
+    if cause:
+        return f"refused {cause}\n"
+    _, outcomes = model.broadcast(model.Rules, run)
+    lines = [f"agree {run.n} {run.t} {run.T} {run.sender + 1} {run.rounds}"]
+    for i in range(run.n):
+        lines.append(" ".join([str(i + 1)] + (["-"] * 3 if run.bad[i] else [str(b) for b in outcomes[i]])))
     return "".join(line + "\n" for line in lines)
+
+
+def logged(run):
+    """The log of a run and its outcomes, three bytes a station."""
+    said, outcomes = model.broadcast(model.Rules, run)
+    return bytes(model.log_of(model.Rules, run, said)), bytes(itertools.chain(*outcomes))
+
+
+def audited(line, log, outcomes):
+    """What is printed of a log on a line of n, t, T and the sender: the set, or the lowest of its causes."""
+    n, t, T, sender = line
+    lengths = reader.table_size(n, t), 3 * n
+    causes = {2: not 1 <= n <= 32, 3: t > T or t + 2 * T >= n, 4: not 1 <= sender <= n, 8: (len(log), len(outcomes)) != lengths}
+    if any(causes.values()):
+        return f"refused {min(cause for cause, holds in causes.items() if holds)}\n"
+    run = model.Run(n, t, T, sender - 1, 0, [False] * n, log)
+    return "".join(["broke", *(f" {i + 1}" for i in model.broke(run, [tuple(outcomes[3 * i:3 * i + 3]) for i in range(n)])), "\n"])
 
 
 # ---- the sheets
@@ -116,6 +143,20 @@ def sheets():
     }
 
 
+def foreign():
+    """A log of another maker's program with its outcomes: five stations, t and T 1, and station 2 sends a one. In round 5 station 4 tells station 3 a one, as the
+    others do, and station 5 a zero; station 3 shows grade 1 and a flag, though its last row has five ones."""
+    log, outcomes = (bytearray(part) for part in logged(model.Run(5, 1, 1, 1, 1, [False] * 5, [])))
+    log[reader.place(5, 5, 4, 5)] = 0
+    outcomes[6:9] = 1, 1, 1
+    return (5, 1, 1, 2), bytes(log), bytes(outcomes)
+
+
+def logs():
+    """Line, log and outcomes."""
+    return {"a": ((4, 1, 1, 1), *logged(run_of(sheets()["a"])[1])), "foreign": foreign()}
+
+
 def odd_inputs():
     """Inputs that are no sheets by their length, the longest sheet, and a sheet for each later cause."""
     a = sheet_of(4, 1, 1, 1, 1, [4], [])
@@ -143,12 +184,18 @@ def printed(sheet, program=PROGRAM):
     return done.stdout if done.returncode == 0 and not done.stderr else None
 
 
-def write():
+def made_files():
+    """The content of each file that is written here."""
     for name, sheet in sheets().items():
-        with open(os.path.join(EXAMPLES, name + ".sheet"), "wb") as file:
-            file.write(sheet)
-        with open(os.path.join(EXAMPLES, name + ".listing"), "w") as file:
-            file.write(listing(sheet))
+        yield from ((name + ".sheet", sheet), (name + ".listing", listing(sheet).encode()))
+    for name, (line, log, outcomes) in logs().items():
+        yield from ((name + ".log", log), (name + ".outcomes", outcomes), (name + ".broke", audited(line, log, outcomes).encode()))
+
+
+def write():
+    for name, content in made_files():
+        with open(os.path.join(EXAMPLES, name), "wb") as file:
+            file.write(content)
 
 
 def made_of(command, file):
@@ -170,13 +217,13 @@ def texts():
 
 def checks():
     """A name and whether it holds, for each."""
-    expected = {name + end for name in sheets() for end in (".sheet", ".listing", ".text")} - {UNTIDY + ".text"} | {"c.svg"}
-    yield "examples/ has these and no others", set(os.listdir(EXAMPLES)) == expected
-    for name, made in sheets().items():
-        sheet, text = (read(os.path.join(EXAMPLES, name + end)) for end in (".sheet", ".listing"))
-        yield f"{name}: the sheet is the one made here", sheet == made
-        yield f"{name}: the listing is the model's", text.decode() == listing(sheet)
-        yield f"{name}: the program prints it", printed(sheet) == text
+    expected = dict(made_files())
+    by_hand = {name + ".text" for name in sheets()} - {UNTIDY + ".text"} | {"c.svg"}
+    yield "examples/ has these and no others", set(os.listdir(EXAMPLES)) == {*expected, *by_hand}
+    for name, made in expected.items():
+        yield f"{name}: as it is made here", read(os.path.join(EXAMPLES, name)) == made
+    for name, sheet in sheets().items():
+        yield f"{name}: the program prints its listing", printed(sheet) == expected[name + ".listing"]
     yield f"longest: the listing has {LONGEST_LISTING} bytes", len(read(os.path.join(EXAMPLES, "longest.listing"))) == LONGEST_LISTING
     for name, sheet in odd_inputs().items():
         expected = listing(sheet)
@@ -203,7 +250,82 @@ def rewritings():
         yield from rewriting(f"run {number}", run.sheet)
 
 
+def asked(*words):
+    """How the program audit ends that is given these words."""
+    done = subprocess.run([AUDIT, *map(str, words)], capture_output=True)
+    return done.returncode, done.stdout.decode(), done.stderr.decode()
+
+
+def asked_of(line, log, outcomes):
+    """How it ends that is given a line, and files with a log and outcomes."""
+    with tempfile.TemporaryDirectory() as folder:
+        files = [os.path.join(folder, name) for name in ("log", "outcomes")]
+        for file, content in zip(files, (log, outcomes)):
+            pathlib.Path(file).write_bytes(content)
+        return asked(*line, *files)
+
+
+def run_markings(line, log, outcomes):
+    """The markings of a small line under which the log is a run, itself as the table, with the outcomes of unmarked stations as logged."""
+    n, t, T, sender = line
+    for bad in itertools.product((False, True), repeat=n):
+        for value in 0, 1:
+            made, ends = logged(model.Run(n, t, T, sender - 1, value, bad, log))
+            if made == log and all(bad[i] or ends[3 * i:3 * i + 3] == outcomes[3 * i:3 * i + 3] for i in range(n)):
+                yield {i + 1 for i in range(n) if bad[i]}
+
+
+def audits():
+    """What the program audit prints of each log; of the log of each sheet's run, its marks."""
+    for name, made in logs().items():
+        told = audited(*made)
+        yield f"{name}: the program prints who broke the rules", asked_of(*made) == (0, told, "")
+        markings, broke = list(run_markings(*made)), {int(word) for word in told.split()[1:]}
+        yield f"{name}: the set is the least marking", broke in markings and all(broke <= one for one in markings)
+    yield "foreign: stations 3 and 4", audited(*foreign()) == "broke 3 4\n"
+    for name, sheet in sheets().items():
+        run = run_of(sheet)[1]
+        marks = "".join(f" {i + 1}" for i in range(run.n) if run.bad[i])
+        made = (run.n, run.t, run.T, run.sender + 1), *logged(run)
+        yield f"{name}: the log of its run yields its marks", asked_of(*made) == (0, f"broke{marks}\n", "") == (0, audited(*made), "")
+
+
+def odd_logs():
+    """Lines, logs and outcomes that are refused, and one of 32 stations that all broke the rules."""
+    line, log, outcomes = foreign()
+    yield from (((0, 1, 1, 2), log, outcomes), ((33, 1, 1, 2), log, outcomes), ((5, 2, 1, 2), log, outcomes), ((5, 1, 2, 2), log, outcomes))
+    yield from (((5, 1, 1, 0), log, outcomes), ((5, 1, 1, 6), log, outcomes), ((255,) * 4, log, outcomes), ((0, 1, 0, 0), b"", b""))
+    yield from ((line, log[:-1], outcomes), (line, log + b"\0", outcomes), (line, b"", outcomes), (line, log, b""), (line, outcomes, log))
+    yield from ((line, log, outcomes[:-1]), (line, log, outcomes + b"\0"), (line, bytes(10 * reader.LARGEST_TABLE), outcomes), (line, log, bytes(70000)))
+    yield (32, 10, 10, 32), bytes(reader.LARGEST_TABLE), bytes(96)
+
+
+def odd_words():
+    """The program audit used otherwise than its command does; numbers with zeros before them, and above 255."""
+    files = [os.path.join(EXAMPLES, "foreign" + end) for end in (".log", ".outcomes")]
+    usage = "audit: wanted are n, t, T and the sender in decimal, the log's file and the outcomes' file\n"
+    wrong = [(), (5, 1, 1, 2), (5, 1, 1, 2, files[0]), (5, 1, 1, 2, *files, "more"), (*files, 5, 1, 1, 2)]
+    wrong += [(*line, *files) for line in (("", 1, 1, 2), (5, "-1", 1, 2), (5, 1, "1x", 2), (5, 1, 1, " 2"), (5, 1, 1, "0x2"), ("+5", 1, 1, 2))]
+    for words in wrong:
+        yield f"audit {words}: how it is used", asked(*words) == (0, "", usage)
+    numbers = {("005", 1, 1, "02"): "broke 3 4", (261, 1, 1, 2): "refused 2", (5, 2**64 + 1, 1, 2): "refused 3", (5, 1, 257, 2): "refused 3", (5, 1, 1, 2**32 + 2): "refused 4"}
+    for line, told in numbers.items():
+        yield f"audit {line}: {told}", asked(*line, *files) == (0, told + "\n", "")
+
+
+def odd_files():
+    """The program audit with files that can't be opened or read, and with odd logs."""
+    log, outcomes, none = (os.path.join(EXAMPLES, name) for name in ("foreign.log", "foreign.outcomes", "none"))
+    missing, folder = ": No such file or directory", ": Is a directory"
+    for first, second, said in (none, outcomes, none + missing), (log, none, none + missing), (none, EXAMPLES, none + missing), (
+            EXAMPLES, none, EXAMPLES + folder), (log, EXAMPLES, EXAMPLES + folder), ("", outcomes, missing):
+        yield f"audit: {said}", asked(5, 1, 1, 2, first, second) == (0, "", said + "\n")
+    for made in odd_logs():
+        yield f"audit {made[0]}, {len(made[1])} and {len(made[2])} bytes: {audited(*made)}", asked_of(*made) == (0, audited(*made), "")
+
+
 if __name__ == "__main__":
     if sys.argv[1:] == ["--check"]:
-        sys.exit(not (all(built(pathlib.Path(program)) for program in (PROGRAM, REWRITE)) and closing([*checks(), *texts(), *rewritings()])))
+        trials = checks, texts, rewritings, audits, odd_words, odd_files
+        sys.exit(not (all(built(pathlib.Path(program)) for program in PROGRAMS) and closing(one for trial in trials for one in trial())))
     write()
