@@ -20,6 +20,9 @@ from counting import built, closing
 TOP = pathlib.Path(__file__).resolve().parent.parent
 AGREE, LISTING = TOP / "examples" / "a.sheet", (TOP / "examples" / "a.listing").read_bytes()
 UNTIDY, TIDY = TOP / "examples" / "untidy.sheet", (TOP / "examples" / "tidy.sheet").read_bytes()
+LINE, FILES = ("5", "1", "1", "2"), ("examples/foreign.log", "examples/foreign.outcomes")
+LOG, OUTCOMES, BROKE = ((TOP / "examples" / f"foreign.{end}").read_bytes() for end in ("log", "outcomes", "broke"))
+# those of one file or standard input; ./audit has its own trials
 COMMANDS = "agree", "rewrite", "sheet", "text", "draw"
 # a command that hasn't ended after so many seconds hangs
 HANGS = 600
@@ -176,6 +179,77 @@ def uses():
     yield "agree: a listing on a terminal", (status, shown.replace("\r\n", "\n").encode()) == (0, LISTING)
 
 
+# ---- ./audit, which takes a line's numbers and two files
+
+
+def audited(folder):
+    """What it makes of its files: the set, also of nobody and of case A's log."""
+    odd = [folder / name for name in ("-a & b: c.log", "-")]
+    for file, content in zip(odd, (LOG, OUTCOMES)):
+        file.write_bytes(content)
+    os.symlink(TOP / "audit", folder / "linked")
+    log, outcomes = examples.logged(examples.run_of((TOP / "examples" / "d.sheet").read_bytes())[1])
+    for name, content in ("d.log", log), ("d.outcomes", outcomes):
+        (folder / name).write_bytes(content)
+    yield "audit: a log", Ran("audit", *LINE, *FILES).gives(0, BROKE)
+    yield "audit: case A's log", Ran("audit", 4, 1, 1, 1, "examples/a.log", "examples/a.outcomes").gives(0, b"broke 4\n")
+    yield "audit: a log in which all keep the rules", Ran("audit", 1, 0, 0, 1, folder / "d.log", folder / "d.outcomes").gives(0, b"broke\n")
+    yield "audit: names with signs in them", Ran("linked", "--", *LINE, odd[0].name, "./-", top=folder).gives(0, BROKE)
+    yield "audit: numbers with zeros before them", Ran("audit", "005", "01", "1", "002", *FILES).gives(0, BROKE)
+    yield "audit: pipes by their names", in_shell(f"./audit {' '.join(LINE)} <(cat {FILES[0]}) <(cat {FILES[1]})").stdout == BROKE
+    status, shown = on_terminal(["./audit", *LINE, *FILES])
+    yield "audit: on a terminal", (status, shown.replace("\r\n", "\n").encode()) == (0, BROKE)
+
+
+def audits_refused(folder):
+    """Each cause: the number to standard output, and the cause in words to standard error; of a wrong length the lengths too."""
+    told, short, empty = causes(), folder / "short", folder / "empty"
+    short.write_bytes(LOG[:-1])
+    empty.touch()
+    trials = [(("0", *LINE[1:]), FILES, "2", ""), (("999", *LINE[1:]), FILES, "2", ""), (("5", "2", "1", "2"), FILES, "3", ""), ((*LINE[:3], "6"), FILES, "4", "")]
+    for files, has in ((short, FILES[1]), (224, 15)), ((FILES[0], empty), (225, 0)), ((FILES[1], FILES[0]), (15, 225)):
+        lengths = f"audit: the log has {has[0]} bytes and the outcomes have {has[1]}: wanted are 225 bytes of log and 15 of outcomes\n"
+        trials.append((("5", "01", "1", "2"), files, "8", lengths))
+    for line, files, number, lengths in trials:
+        said = re.escape(f"audit: refused {number}: {told[number]}\n{lengths}")
+        yield f"audit, refused {number}: {line}, {lengths}", Ran("audit", *line, *files).gives(1, f"refused {number}\n".encode(), said)
+    done = in_shell(f"./audit 32 010 10 1 <(cat {FILES[0]}) {FILES[1]}")
+    yield "audit: lengths of a pipe", done.stderr.endswith(b"\naudit: wanted are 36864 bytes of log and 96 of outcomes\n") and done.stdout == b"refused 8\n"
+
+
+def audit_troubles(folder):
+    none, missing = folder / "none", "No such file or directory\n"
+    yield "audit: no log", Ran("audit", *LINE, none, FILES[1]).gives(1, b"", f"audit: {none}: {missing}")
+    yield "audit: no outcomes", Ran("audit", *LINE, FILES[0], none).gives(1, b"", f"audit: {none}: {missing}")
+    yield "audit: neither", Ran("audit", *LINE, none, folder / "nor this").gives(1, b"", f"audit: {none}: {missing}")
+    yield "audit: a folder", Ran("audit", *LINE, folder, FILES[1]).gives(1, b"", f"audit: {folder}: Is a directory\n")
+    with open("/dev/full", "wb") as full:
+        yield "audit: a full output", Ran("audit", *LINE, *FILES, stdout=full).gives(2, None, "audit: standard output: No space left on device\n")
+        yield "audit --help, a full output", Ran("audit", "--help", stdout=full).gives(2, None, "audit: standard output can't be written\n")
+    words = " ".join(("./audit", *LINE, *FILES))
+    done = in_shell(f"{words} >&-")
+    yield "audit: no output", (done.returncode, done.stderr) == (2, b"audit: standard output is closed\n")
+    yield "audit: an output that nobody reads", in_shell(f"{words} | true; exit ${{PIPESTATUS[0]}}").returncode == 128 + signal.SIGPIPE
+    yield "audit: no input", in_shell(f"{words} <&-").stdout == BROKE
+    yield "audit: no standard error", in_shell(f"{words} 2>&-").stdout == BROKE
+    said = "audit: no temporary folder can be made in /nowhere\n"
+    yield "audit: no temporary folder", Ran("audit", *LINE, *FILES, env=os.environ | {"TMPDIR": "/nowhere"}).gives(2, b"", said)
+
+
+def audit_uses():
+    usage = r"usage: ./audit N T UPPER SENDER LOG OUTCOMES\n(?s:.*)\./- for one of that name(?s:.*)Exit status: 0 (?s:.*)"
+    asked = Ran("audit", "--help")
+    yield "audit --help", asked.status == 0 and re.fullmatch(usage, asked.out.decode()) and not asked.said
+    wrong = {words: f"six words are wanted, and there are {len(words)}" for words in ((), LINE, (*LINE, FILES[0]), (*LINE, *FILES, "more"))}
+    for place in range(4):
+        for word in "", "x", "+1", "1.", " 1", "0x1":
+            wrong[(*LINE[:place], word, *LINE[place + 1:], *FILES)] = f"'{word}' is no decimal number"
+    wrong |= {(*LINE, "", FILES[1]): "a file's name is empty", (*LINE, FILES[0], ""): "a file's name is empty", ("-x", *LINE[1:], *FILES): "there is no option -x"}
+    wrong |= {words: "- stands for no file here: ./- is one of that name" for words in ((*LINE, "-", FILES[1]), (*LINE, FILES[0], "-"))}
+    for words, said in wrong.items():
+        yield f"audit: {said}, of {words}", Ran("audit", *words).gives(2, b"", f"audit: {re.escape(said)}\n{usage}")
+
+
 # ---- building, with a made-up rt in a copy of the commands
 
 
@@ -207,7 +281,7 @@ class Copy:
         tools.mkdir()
         for part in "commands", "crates":
             shutil.copytree(TOP / part, self.top / part)
-        for part in "agree", "rewrite", "crates.txt":
+        for part in "agree", "rewrite", "audit", "crates.txt":
             shutil.copy(TOP / part, self.top / part)
         (tools / "rt").write_text(RT)
         (tools / "rt").chmod(0o755)
@@ -223,6 +297,9 @@ class Copy:
 
     def rewrite(self):
         return Ran("rewrite", UNTIDY, top=self.top, env=self.env)
+
+    def audit(self):
+        return Ran("audit", *LINE, *FILES, top=self.top, env=self.env)
 
     def started(self, stderr):
         """The command in the background; what it makes goes to a file."""
@@ -284,9 +361,11 @@ def building(folder):
     yield "a program older than its crates is built again", again.out == b"agree built\n" and "is older than its sources: " in again.said and len(copy.called()) == 2
     (copy.top / "crates" / "layout" / "specs" / "Chain.antt").unlink()
     yield "also where a file is gone", copy.agree().out == b"agree built\n" and len(copy.called()) == 3
-    rewritten = copy.rewrite()
-    yield "each program is built by its own command", rewritten.out == b"rewrite built\n" and copy.called()[3:] == ["check rewrite"]
-    yield "and told by its own name", rewritten.status == 0 and rewritten.said.startswith("rewrite: target/bin/rewrite isn't built yet: building, ")
+    made = {"rewrite": copy.rewrite(), "audit": copy.audit()}
+    yield "each program is built by its own command", copy.called()[3:] == ["check rewrite", "check audit"]
+    for name, one in made.items():
+        told = one.said.startswith(f"{name}: target/bin/{name} isn't built yet: building, ")
+        yield f"{name}: told by its own name", told and (one.status, one.out) == (0, f"{name} built\n".encode())
     yield "nothing temporary is left", copy.left() == []
     copy = Copy(folder / "shown", "told")
     status, said = copy.followed(*pty.openpty())
@@ -429,14 +508,15 @@ def pasted(folder):
 
 
 def checks():
-    trials = [inputs, refusals, troubles, building, failing, interrupts, at_once, identified, pasted]
+    trials = [inputs, refusals, troubles, audited, audits_refused, audit_troubles, building, failing, interrupts, at_once, identified, pasted]
     for trial in trials:
         with tempfile.TemporaryDirectory() as folder:
             yield from trial(pathlib.Path(folder).resolve())
     yield from documented()
     yield from uses()
+    yield from audit_uses()
 
 
 if __name__ == "__main__":
-    programs = [TOP / "target" / "bin" / name for name in ("agree", "rewrite")]
+    programs = [TOP / "target" / "bin" / name for name in ("agree", "rewrite", "audit")]
     sys.exit(not (all(map(built, programs)) and Ran("draw", AGREE).status == 0 and closing(checks())))
