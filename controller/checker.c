@@ -199,7 +199,7 @@ static void worked_out(int value)
     uint8_t said = (uint8_t)value, other = (uint8_t)!value;
     rehearse(&base, 4, 1, 1, 2, value, 0);
     check(answers(&base.k, 0), "value %d: all keep the rules", value);
-    log_byte(1, 2, 3, other, 6);    /* 3 goes on as if it had heard the same as the others */
+    log_byte(1, 2, 3, other, 6);    /* 3 goes on as if told the same as the others */
     log_byte(1, 2, 2, other, 2);    /* also to itself */
     log_byte(1, 3, 1, other, 4);    /* doesn't speak; nobody listens */
     log_byte(1, 3, 3, 254, 4);

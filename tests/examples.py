@@ -308,8 +308,9 @@ def odd_words():
     wrong += [(*line, *files) for line in (("", 1, 1, 2), (5, "-1", 1, 2), (5, 1, "1x", 2), (5, 1, 1, " 2"), (5, 1, 1, "0x2"), ("+5", 1, 1, 2))]
     for words in wrong:
         yield f"audit {words}: how it is used", asked(*words) == (0, "", usage)
-    numbers = {("005", 1, 1, "02"): "broke 3 4", (261, 1, 1, 2): "refused 2", (5, 2**64 + 1, 1, 2): "refused 3", (5, 1, 257, 2): "refused 3", (5, 1, 1, 2**32 + 2): "refused 4"}
-    for line, told in numbers.items():
+    lines = {("005", 1, 1, "02"): "broke 3 4", (261, 1, 1, 2): "refused 2", (5, 2**64 + 1, 1, 2): "refused 3", (5, 1, 257, 2): "refused 3"}
+    lines[5, 1, 1, 2**32 + 2] = "refused 4"
+    for line, told in lines.items():
         yield f"audit {line}: {told}", asked(*line, *files) == (0, told + "\n", "")
 
 
@@ -317,9 +318,10 @@ def odd_files():
     """The program audit with files that can't be opened or read, and with odd logs."""
     log, outcomes, none = (os.path.join(EXAMPLES, name) for name in ("foreign.log", "foreign.outcomes", "none"))
     missing, folder = ": No such file or directory", ": Is a directory"
-    for first, second, said in (none, outcomes, none + missing), (log, none, none + missing), (none, EXAMPLES, none + missing), (
-            EXAMPLES, none, EXAMPLES + folder), (log, EXAMPLES, EXAMPLES + folder), ("", outcomes, missing):
-        yield f"audit: {said}", asked(5, 1, 1, 2, first, second) == (0, "", said + "\n")
+    trials = [(none, outcomes, none + missing), (log, none, none + missing), (none, EXAMPLES, none + missing), ("", outcomes, missing)]
+    trials += [(EXAMPLES, none, EXAMPLES + folder), (log, EXAMPLES, EXAMPLES + folder)]
+    for first, second, said in trials:
+        yield f"audit: {first}, {second}: {said}", asked(5, 1, 1, 2, first, second) == (0, "", said + "\n")
     for made in odd_logs():
         yield f"audit {made[0]}, {len(made[1])} and {len(made[2])} bytes: {audited(*made)}", asked_of(*made) == (0, audited(*made), "")
 
