@@ -206,7 +206,7 @@ def audits_refused(folder):
     told, short, empty = causes(), folder / "short", folder / "empty"
     short.write_bytes(LOG[:-1])
     empty.touch()
-    trials = [(("0", *LINE[1:]), FILES, "2", ""), (("999", *LINE[1:]), FILES, "2", ""), (("5", "2", "1", "2"), FILES, "3", ""), ((*LINE[:3], "6"), FILES, "4", "")]
+    trials = [(("0", *LINE[1:]), FILES, "2", ""), (("9" * 30, *LINE[1:]), FILES, "2", ""), (("5", "2", "1", "2"), FILES, "3", ""), ((*LINE[:3], "6"), FILES, "4", "")]
     for files, has in ((short, FILES[1]), (224, 15)), ((FILES[0], empty), (225, 0)), ((FILES[1], FILES[0]), (15, 225)):
         lengths = f"audit: the log has {has[0]} bytes and the outcomes have {has[1]}: wanted are 225 bytes of log and 15 of outcomes\n"
         trials.append((("5", "01", "1", "2"), files, "8", lengths))
@@ -222,6 +222,7 @@ def audit_troubles(folder):
     yield "audit: no log", Ran("audit", *LINE, none, FILES[1]).gives(1, b"", f"audit: {none}: {missing}")
     yield "audit: no outcomes", Ran("audit", *LINE, FILES[0], none).gives(1, b"", f"audit: {none}: {missing}")
     yield "audit: neither", Ran("audit", *LINE, none, folder / "nor this").gives(1, b"", f"audit: {none}: {missing}")
+    yield "audit: a name like what is said of an input", Ran("audit", *LINE, "audit: standard input", none).gives(1, b"", f"audit: audit: standard input: {missing}")
     yield "audit: a folder", Ran("audit", *LINE, folder, FILES[1]).gives(1, b"", f"audit: {folder}: Is a directory\n")
     with open("/dev/full", "wb") as full:
         yield "audit: a full output", Ran("audit", *LINE, *FILES, stdout=full).gives(2, None, "audit: standard output: No space left on device\n")
