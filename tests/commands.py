@@ -462,10 +462,10 @@ def identified(folder):
     example = folder / "example"
     sums = Ran("build")
     done = subprocess.run(["sha256sum", "--check"], input=sums.out, cwd=TOP, capture_output=True)
-    yield "./build prints the sums of what it builds", sums.status == 0 and done.stdout.count(b": OK\n") == 5 == sums.out.count(b"\n")
+    yield "./build prints the sums of what it builds", sums.status == 0 and done.stdout.count(b": OK\n") == 6 == sums.out.count(b"\n")
     subprocess.run(["gcc", "-O2", "controller/example.c", "target/staticlib/libcontroller.a", "-o", example], cwd=TOP, check=True)
     subprocess.run(["strip", "-o", folder / "stripped", example], check=True)
-    for built_file in "bin/agree", "bin/rewrite", "staticlib/libcontroller.a", "staticlib/liblent.a", "staticlib/libexports.a":
+    for built_file in "bin/agree", "bin/rewrite", "bin/audit", "staticlib/libcontroller.a", "staticlib/liblent.a", "staticlib/libexports.a":
         said = f"target/{built_file}: target/{built_file} of this tree, to the byte\n"
         yield f"./identify of {built_file}", Ran("identify", f"target/{built_file}").gives(0, said.encode())
     calls = "vembopu_advance, vembopu_ballot, vembopu_open, vembopu_result"
@@ -481,7 +481,7 @@ def identified(folder):
     subprocess.run(["gcc", "-O2", "-c", "controller/example.c", "-o", folder / "named"], cwd=TOP, check=True)
     named = Ran("identify", folder / "named")
     yield "./identify of a file that only names the calls", named.status == 1 and named.out.endswith(b", and has no code of them as this tree builds it\n")
-    for name in "agree", "rewrite":
+    for name in "agree", "rewrite", "audit":
         program = (TOP / "target" / "bin" / name).read_bytes()
         other.write_bytes(with_other(program, program[-64:]))
         yield f"./identify of a changed {name}", re.fullmatch(rb".*/other: neither a program nor a library of this tree, and none of their calls; its SHA-256 is [0-9a-f]{64}\n", Ran("identify", other).out)
