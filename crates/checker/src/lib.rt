@@ -23,9 +23,9 @@ pub enum Checked {
 }
 
 // The stations after some rounds, and 1 for each that has sent what it should.
-pub struct Course {
-    pub stations: Stations,
-    pub kept: [u8; 32],
+struct Course {
+    stations: Stations,
+    kept: [u8; 32],
 }
 
 // Causes 2, 3, 4 and 8, the lowest first.

@@ -7,6 +7,10 @@ use Rattle.refusal.specs.declared.cause.Verdict.{Verdict}
 use Rattle.broadcast.specs.Bytes.{Run}
 use Rattle.exchange.specs.Promise.{Exchanged}
 use Rattle.rehearsal.specs.Promise.{Rehearsed}
+use Rattle.rules.specs.Rules.{Logged}
+use Rattle.checker.specs.declared.Checked.{Checked}
+use Rattle.checker.specs.declared.Checked.the-variants as checked
+use Rattle.checker.specs.Promise.{checked-number, Checks}
 use Rattle.sheet.specs.declared.Reading.{Reading}
 use Rattle.sheet.specs.Reading.{reading-number, Reads}
 use Rattle.writer.specs.declared.Need.{Need}
@@ -52,3 +56,13 @@ pub record ExchangedNumber (n t T marks : ℕ) (inputs table outcomes₀ outcome
   pub answer : Verdict
   pub exchanged : Exchanged n t T marks inputs table outcomes₀ outcomes₁ answer
   pub number-is : r ≡ code answer
+
+-- `vembopu_check`: what `checker::check` promises; the marks below the refusal's number
+abbrev pub checked-word : Checked → ℕ
+checked-word (checked.Broke marks) = marks
+checked-word (checked.Refused c) = 0
+
+pub record ChecksWord (L : Logged) (r : ℕ) : Type 0 where
+  pub answer : Checked
+  pub checks : Checks L answer
+  pub word-is : r ≡ answer-word (checked-number answer) (checked-word answer)

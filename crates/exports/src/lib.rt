@@ -1,7 +1,10 @@
 // The calls on whole lines for other languages: numbers and byte slices, and the documents' number of the refusal as the answer, 0 where nothing is
-// refused; of the writer's calls it stands in the upper 32 bits, above what the call gives. Each promises what the call that it passes on promises.
+// refused; of the writer's calls and the checker it stands in the upper 32 bits, above what the call gives. Each promises what the call that it passes on
+// promises.
 ghost use Rattle.rehearsal.specs.Promise.{run-of};
-ghost use Rattle.exports.specs.Numbers.{ReadNumber, NeedsWord, WritesWord, RehearsedNumber, ExchangedNumber};
+ghost use Rattle.checker.specs.Promise.{logged};
+ghost use Rattle.exports.specs.Numbers.{ReadNumber, NeedsWord, WritesWord, RehearsedNumber, ExchangedNumber, ChecksWord};
+use checker::Checked;
 use line::Line;
 use refusal::cause;
 use sheet::Reading;
@@ -86,4 +89,23 @@ pub extern "C" fn vembopu_exchange(
 {
     let verdict = exchange::exchange(Line { n, t, upper }, marks, inputs, table, outcomes);
     verdict.code()
+}
+
+// Which stations broke the rules, by a log and outcomes.
+#[no_mangle]
+pub extern "C" fn vembopu_check(
+    n: u8,
+    t: u8,
+    upper: u8,
+    sender: u8,
+    log: &[u8],
+    outcomes: &[u8],
+) -> u64
+    ensures { λ r. ⌜ ChecksWord (logged n t upper sender (now (log .entry)) (now (outcomes .entry))) r ⌝ }
+{
+    let checked = checker::check(Line { n, t, upper }, sender, log, outcomes);
+    match checked {
+        Checked::Broke(marks) => cause::answer(0, marks),
+        Checked::Refused(c) => cause::answer(c.number(), 0),
+    }
 }
