@@ -1,0 +1,2 @@
+-- A number among a program's arguments.
+pub mod Argument
