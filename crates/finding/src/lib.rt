@@ -1,10 +1,6 @@
 // The line that tells what the checker found, put at the start of a lent buffer as far as the buffer goes: `broke` and the stations' numbers, or `refused` and the
 // number of the cause.
-ghost use mathlib.Core.List.{[], _∷_, _++_};
-ghost use Prim.Native.Nat.{_+_, _<_};
-ghost use Rattle.line.specs.Count.{if_then_else_};
-ghost use Rattle.line.specs.Marks.{marked};
-ghost use Rattle.text.specs.Decimal.{space, numeral};
+ghost use Prim.Native.Nat.{_<_};
 ghost use Rattle.text.specs.Laid.{Puts};
 ghost use Rattle.finding.specs.Finding.{number-if, numbers, broke-line, finding};
 use checker::Checked;

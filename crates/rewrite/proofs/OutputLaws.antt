@@ -2,7 +2,7 @@
 use Prim.Native.Nat.{ℕ, _≤_, min}
 use mathlib.Core.Path.{_≡_, sym, ap, _∙_}
 use mathlib.Core.List.{List, [], _∷_, _++_}
-use native.Mathlib.Nat.{min-eq-left, zero-add}
+use native.Mathlib.Nat.{min-eq-left}
 use native.Mathlib.Omega.{arith}
 use lib.ListN.{length, take, drop, length-append}
 use lib.Seq.{take-append-seam, length-take-le}
@@ -20,7 +20,7 @@ use Rattle.sheet.specs.declared.Reading.{Reading}
 use Rattle.sheet.specs.declared.Reading.the-variants as reading
 use Rattle.sheet.specs.Reading.{table-of, Reads}
 use Rattle.text.specs.Laid.{Puts}
-use Rattle.text.proofs.LaidLaws.{laid-whole, laid-length, after-within}
+use Rattle.text.proofs.LaidLaws.{puts-whole}
 use Rattle.lines.specs.Lines as lines
 use Rattle.lines.specs.Text.{text}
 use Rattle.lines.proofs.LineLaws.{refusal-short}
@@ -102,12 +102,6 @@ module _ (s table₀ table₁ : List ℕ) {answer : Reading} (r : Reads s table�
       → Puts out₀ out₁ 0 (text ((lines.refused ∷ lines.num k ∷ []) ∷ [])) n → Rewritten s out₁ n
   unfolding output
   refused-output c k e q out₀ out₁ n z p =
-      let line = text ((lines.refused ∷ lines.num k ∷ []) ∷ []) in
       let short = refusal-short k in
-      let here : length line ≤ length out₀ = omega (arith, short, z) in
-      let n-is : n ≡ length line = p .answer-is ∙ after-within 0 (length line) (omega (arith, short)) ∙ zero-add (length line) in
-      record {
-        fate = r .fate;
-        inside = rw (n-is, p .text-is, laid-length) here;
-        whole = rw (n-is, p .text-is) (laid-whole line out₀ here ∙ rw (← own, read-refused s table₀ table₁ r c e, ← q));
-      }
+      let (inside, whole) = puts-whole p (omega (arith, short, z)) in
+      record { fate = r .fate; inside = inside; whole = whole ∙ rw (← own, read-refused s table₀ table₁ r c e, ← q) }

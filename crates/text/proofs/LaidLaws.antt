@@ -4,7 +4,7 @@ use mathlib.Core.Logic.{_≢_}
 use mathlib.Core.Path.{_≡_, refl, sym, _∙_}
 use mathlib.Core.Bool.{Bool, true, false}
 use mathlib.Core.List.{List, [], _∷_, _++_, append-nil}
-use native.Mathlib.Nat.{add-zero, min-eq-left, min-eq-right}
+use native.Mathlib.Nat.{zero-add, add-zero, min-eq-left, min-eq-right}
 use native.Mathlib.Numerals.{add-one}
 use native.Mathlib.Omega.{arith}
 use lib.Dec.{ltb}
@@ -119,6 +119,13 @@ laid-later l a k bytes h = go (ltb (a + k) last-place) refl
 
 pub puts-length : {l₀ l₁ : List ℕ} {a b : ℕ} {xs : List ℕ} → Puts l₀ l₁ a xs b → length l₁ ≡ length l₀
 puts-length {l₀} {l₁} {a} {b} {xs} p = rw (p .text-is) (laid-length xs l₀ a)
+
+-- from the front, where the buffer has room for all of it
+pub puts-whole : {l₀ l₁ : List ℕ} {n : ℕ} {bytes : List ℕ} → Puts l₀ l₁ 0 bytes n → length bytes ≤ length l₀
+    → (n ≤ length l₁) × (take n l₁ ≡ bytes)
+puts-whole {l₀} {l₁} {n} {bytes} p h =
+    let n-is : n ≡ length bytes = p .answer-is ∙ after-within 0 (length bytes) (omega (arith, p .size-fits)) ∙ zero-add (length bytes) in
+    (rw (n-is, p .text-is, laid-length) h, rw (n-is, p .text-is) (laid-whole bytes l₀ h))
 
 pub puts-none : (l : List ℕ) (a : ℕ) → length l < 2 ^ 64 → a < 2 ^ 64 → Puts l l a [] a
 unfolding laid

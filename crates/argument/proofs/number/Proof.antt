@@ -1,66 +1,71 @@
+-- `number` meets its contract. The loop's invariant: the first i bytes are digits, and x is their number as far as 255.
 use borrow.Author.Needs.{needs}
+use Prim.Native.Nat.{_≤_, _-_, min}
+use mathlib.Core.Path.{_≡_, sym, ap, _∙_}
+use mathlib.Core.Bool.{true}
 use native.Mathlib.Omega.{arith}
-use Prim.Native.Nat.{ℕ, zero, suc, _+_, _*_, _-_, _≤_, _<_}
-use mathlib.Core.Path.{_≡_, refl, sym, ap, _∙_}
-use mathlib.Core.List.{List, [], _∷_, _++_}
-use lib.ListN.{length, getD, take, drop, set, length-set}
-use mathlib.Core.Logic.{⊎-elim}
+use lib.ListN.{length, getD}
+use borrow.Author.Tests.{not-true, not-false}
+use Rattle.line.specs.Count.{all}
+use Rattle.argument.specs.declared.Argument.the-variants.{Number}
+use Rattle.argument.specs.Argument.{digit-byte, read}
+use Rattle.argument.proofs.ArgumentLaws.{digit-low, read-none, read-turn, digits-none, digits-turn, other-byte, no-byte, a-number}
 use Rattle.argument.proofs.number.Statement.{statement}
 use Rattle.argument.proofs.number.Tie as tie
-use Rattle.argument.proofs.number.Reads as reads
-use Rattle.argument.proofs.number.Lts as lts
-use Rattle.argument.proofs.is_digit.Reads as is-digit-reads
-use Rattle.argument.proofs.with_digit.Reads as with-digit-reads
 
 abbrev Inv-loop : tie.InvT-loop
-Inv-loop bytes x₀ i₀ x i = ?
+Inv-loop bytes x₀ i₀ x i =
+    (i ≤ length bytes) × (x ≡ min (read bytes i) 255) × (all i (λ k. digit-byte (getD bytes k 0)) ≡ true)
 
 abbrev μ-loop : tie.MeasureT-loop
-μ-loop bytes x₀ i₀ x i = ?
+μ-loop bytes x₀ i₀ x i = length bytes - i
 
--- src/lib.rt:36:5
 loop-holds : tie.Need-loop-holds Inv-loop μ-loop
-loop-holds c = search needs
+loop-holds c = let l = c .before .args .bytes .now in (omega arith, rw (read-none l), digits-none l)
 
--- src/lib.rt:37:22
 shared-slice-read-is-digit : tie.Need-shared-slice-read-is-digit Inv-loop μ-loop
 shared-slice-read-is-digit c = search needs
 
--- src/lib.rt:37:13
 is-digit-requires : tie.Need-is-digit-requires Inv-loop μ-loop
 is-digit-requires c κs = search needs
 
--- src/lib.rt:38:13
 returns : tie.Need-returns Inv-loop μ-loop
-returns c = search needs
+returns c =
+    let a = c .before .before .before .before in
+    sym (other-byte (a .before .before .args .bytes .now) (a .loop .i) (c .before .before .before .loop-test .taken) (sym (c .before .is-digit .ensures) ∙ not-true _ (c .if1 .taken)))
 
--- src/lib.rt:40:27
 shared-slice-read-with-digit : tie.Need-shared-slice-read-with-digit Inv-loop μ-loop
 shared-slice-read-with-digit c = search needs
 
--- src/lib.rt:40:9
 with-digit-requires : tie.Need-with-digit-requires Inv-loop μ-loop
-with-digit-requires c κs = search needs
+with-digit-requires c κs = digit-low _ (sym (c .before .before .is-digit .ensures) ∙ not-false _ (c .before .if1 .left))
 
--- src/lib.rt:41:9
 add-i : tie.Need-add-i Inv-loop μ-loop
 add-i c = search needs
 
--- src/lib.rt:36:5
 loop-less : tie.Need-loop-less Inv-loop μ-loop
 loop-less c = search needs
 
--- src/lib.rt:36:5
 loop-again : tie.Need-loop-again Inv-loop μ-loop
-loop-again c = search needs
+loop-again c =
+    let a = c .before .before .before .before .before .before in
+    let l = a .before .before .args .bytes .now in (
+      omega arith,
+      c .with-digit .ensures ∙ read-turn l (a .loop .i) (a .loop .x) (a .loop .inv .1),
+      digits-turn l (a .loop .i) (a .loop .inv .2) (sym (c .before .before .before .is-digit .ensures) ∙ not-false _ (c .before .before .if1 .left)),
+    )
 
--- src/lib.rt:44:9
 returns-2 : tie.Need-returns-2 Inv-loop μ-loop
-returns-2 c = search needs
+returns-2 c =
+    let a = c .before .before in
+    sym (no-byte (a .before .before .args .bytes .now) (omega arith))
 
--- src/lib.rt:31:1
 returns-3 : tie.Need-returns-3 Inv-loop μ-loop
-returns-3 c = search needs
+returns-3 c =
+    let a = c .before .before in
+    let l = a .before .before .args .bytes .now in
+    let e : a .loop .i ≡ length l = omega arith in
+    sym (a-number l (omega (arith, c .if2 .left)) (rw e at (a .loop .inv .2)) ∙ ap Number (sym (rw e at (a .loop .inv .1))))
 
 pub number-spec : {M : Type 1} → statement M
 number-spec =
