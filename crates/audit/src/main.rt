@@ -13,7 +13,7 @@ use libc::STDOUT_FILENO;
 use line::Line;
 
 // The longest line (`Finding-short` of crate finding).
-const LONGEST: usize = 134;
+const LONGEST: usize = 93;
 
 // The line that tells what is found, whole, at the start of the text.
 fn found(line: Line, sender: u8, log: &[u8], outcomes: &[u8], text: &mut [u8; LONGEST]) -> usize

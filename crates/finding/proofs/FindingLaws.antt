@@ -1,19 +1,23 @@
 -- Laws of the line: a number that is there or not, one station more, and the line's length. Assumes nothing.
-use Prim.Native.Nat.{ℕ, zero, suc, _+_, _*_, _≤_, _<_}
+use Prim.Native.Nat.{ℕ, zero, suc, _+_, _-_, _*_, _/_, _%_, _≤_, _<_, min}
 use mathlib.Core.Path.{_≡_, refl}
 use mathlib.Core.Bool.{Bool, true, false}
 use mathlib.Core.List.{List, [], _∷_}
+use mathlib.Core.Logic.{_⊎_, inl, inr}
 use native.Mathlib.Omega.{arith}
 use native.Mathlib.Numerals.{add-one}
+use lib.Dec.{ltb}
 use lib.ListN.{length, length-append}
+use borrow.Author.Tests.{lt-ltb}
 use Rattle.line.specs.Count.{if_then_else_}
 use Rattle.line.specs.Marks.{marked}
+use Rattle.line.proofs.CountLaws.{le-or-lt}
 use Rattle.refusal.specs.Cause.{number}
 use Rattle.checker.specs.declared.Checked.{Checked}
 use Rattle.checker.specs.declared.Checked.the-variants.{Broke, Refused}
-use Rattle.text.specs.Decimal.{space, numeral}
+use Rattle.text.specs.Decimal.{space, digit, decimal, numeral}
 use Rattle.text.specs.Laid.{Puts}
-use Rattle.text.proofs.DecimalLaws.{decimal-numeral, decimal-short}
+use Rattle.text.proofs.DecimalLaws.{decimal-numeral}
 use Rattle.text.proofs.LaidLaws.{puts-then}
 use Rattle.lines.proofs.LineLaws.{refusal-short}
 use Rattle.finding.specs.Finding.{number-if, numbers, broke-line, finding}
@@ -39,23 +43,40 @@ pub numbers-turn : {l₀ l₁ l₂ : List ℕ} {a b c : ℕ} (marks i : ℕ) →
 unfolding numbers
 numbers-turn marks i p q = rw (add-one i) (puts-then p q)
 
--- ---- how long it is
+-- ---- how long it is: a space and one digit for the numbers to 9, two for the others
 
-number-short : (marks i : ℕ) → i < 32 → length (number-if marks i) ≤ 4
-unfolding number-if
-number-short marks i h = go (marked marks i)
+decimal-one : (x : ℕ) → x < 10 → length (decimal x) ≤ 1
+unfolding decimal
+decimal-one x h = rw (lt-ltb x 10 h) (omega arith)
+
+decimal-two : (x : ℕ) → x < 100 → length (decimal x) ≤ 2
+unfolding decimal
+decimal-two x h = rw (lt-ltb x 100 h) (go (ltb x 10))
   where
-    go : (b : Bool) → length (if b then space ∷ numeral (i + 1) else []) ≤ 4
-    go true = rw (← decimal-numeral (i + 1) (omega arith)) (omega (arith, decimal-short (i + 1)))
+    go : (b : Bool) → length (if b then digit x ∷ [] else digit (x / 10) ∷ digit (x % 10) ∷ []) ≤ 2
+    go true = omega arith
     go false = omega arith
 
-numbers-short : (marks m : ℕ) → m ≤ 32 → length (numbers marks m) ≤ 4 * m
+number-short : (marks i d : ℕ) → i < 32 → length (decimal (i + 1)) ≤ d → length (number-if marks i) ≤ 1 + d
+unfolding number-if
+number-short marks i d h l = go (marked marks i)
+  where
+    go : (b : Bool) → length (if b then space ∷ numeral (i + 1) else []) ≤ 1 + d
+    go true = rw (← decimal-numeral (i + 1) (omega arith)) (omega arith)
+    go false = omega arith
+
+numbers-short : (marks m : ℕ) → m ≤ 32 → length (numbers marks m) ≤ 3 * m - min m 9
 unfolding numbers
 numbers-short marks zero h = omega arith
 numbers-short marks (suc m) h =
-    simp length-append (omega (arith, numbers-short marks m (omega arith), number-short marks m h))
+    simp length-append (go (le-or-lt 9 m) (numbers-short marks m (omega arith)))
+  where
+    go : (9 ≤ m) ⊎ (m < 9) → length (numbers marks m) ≤ 3 * m - min m 9
+        → length (numbers marks m) + length (number-if marks m) ≤ 3 * suc m - min (suc m) 9
+    go (inl l) ih = omega (arith, number-short marks m 2 h (decimal-two (m + 1) (omega arith)))
+    go (inr l) ih = omega (arith, number-short marks m 1 h (decimal-one (m + 1) (omega arith)))
 
-pub finding-short : (answer : Checked) → length (finding answer) ≤ 134
+pub finding-short : (answer : Checked) → length (finding answer) ≤ 93
 unfolding broke-line
 finding-short (Broke marks) = simp length-append (omega (arith, numbers-short marks 32 (omega arith)))
 finding-short (Refused c) = omega (arith, refusal-short (number c))

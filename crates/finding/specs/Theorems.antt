@@ -4,6 +4,6 @@ use lib.ListN.{length}
 use Rattle.checker.specs.declared.Checked.{Checked}
 use Rattle.finding.specs.Finding.{finding}
 
--- no line is longer than 134 bytes: a buffer of so many holds every one whole
+-- no line is longer than 93 bytes: a buffer of so many holds every one whole
 abbrev pub Finding-short : Type 0
-Finding-short = (answer : Checked) → length (finding answer) ≤ 134
+Finding-short = (answer : Checked) → length (finding answer) ≤ 93
