@@ -1,22 +1,24 @@
 #!/usr/bin/env python3
-"""For each must-fail edit of the definitions of crate broadcast: a run in which the edited protocol breaks a theorem.
+"""For each must-fail edit of the definitions of crates broadcast and rules: a run or a log in which what is edited breaks a theorem.
 
 The prover refuses each edit. This test shows that it is right to: it runs the documents' steps, and the same steps
 with the edit, on small lines with random bad stations, and looks for a run that breaks a statement of
-crates/broadcast/specs/Theorems.antt. The steps as the documents have them must break none; each edit must break one.
-Stations are counted from 0 and rounds from 1, as in the definitions. Prints a line for each check.
+crates/broadcast/specs/Theorems.antt; and it asks who broke the rules, and the same with the edit, by logs of such runs
+and by changed ones, and looks for a log that breaks a statement of crates/rules/specs/Theorems.antt. What the documents
+say must break none; each edit must break one. Stations are counted from 0 and rounds from 1, as in the definitions.
+Prints a line for each check.
 """
 import pathlib
 import random
 import sys
 
-from model import BLANK, SILENCE, Rules, Run, Station, broadcast, exchange, log_of
+from model import BLANK, SILENCE, Keeping, Rules, Run, Station, broadcast, broke, exchange, log_of, run_markings
 
-EDITS = pathlib.Path(__file__).resolve().parent.parent / "crates/broadcast/must-fail"
+CRATES = pathlib.Path(__file__).resolve().parent.parent / "crates"
 
 
-def edited(**change):
-    return type("Edited", (Rules,), {name: value if isinstance(value, tuple) else staticmethod(value) for name, value in change.items()})
+def edited(base=Rules, **change):
+    return type("Edited", (base,), {name: value if isinstance(value, (tuple, range)) else staticmethod(value) for name, value in change.items()})
 
 
 EDITED = {
@@ -143,23 +145,97 @@ def search(rules, broken, tries):
     return None
 
 
-def main():
-    failed = 0
-    found = search(Rules, any_theorem, 4000)
-    print("as the documents have it: " + (f"BREAKS {found[0]} at {found[1]}" if found else "no theorem broken in 4000 runs"))
-    failed += found is not None
-    there = {p.stem for p in EDITS.glob("*.edit")}
-    for name in sorted(there | set(EDITED)):
-        if name not in there or name not in EDITED:
-            print(f"{name}: MISSING {'here' if name in there else 'in crates/broadcast/must-fail'}")
-            failed += 1
-            continue
-        found = search(EDITED[name], demand_3, 4000) or search(EDITED[name], any_theorem, 40000)
+# ---- who broke the rules
+
+
+def row_of_all_good(log, r, own, value):
+    """What a station should have received: its row of the run in which all are good."""
+    run = Run(log.n, log.t, log.T, log.sender, value, [False] * log.n, [])
+    return [broadcast(Rules, run)[0].get(r, [SILENCE] * log.n)[i] for i in range(log.n)]
+
+
+KEEPING = {
+    "should_have_received": edited(Keeping, row=row_of_all_good),
+    "own_row_for_column": edited(Keeping, row=lambda log, r, own, value: [log.entry(r, own, j) for j in range(log.n)]),
+    "value_1_not_tried": edited(Keeping, values=(0,)),
+    "any_byte_for_a_value": edited(Keeping, values=range(256)),
+    "last_receiver_not_compared": edited(Keeping, receivers=lambda n: range(n - 1)),
+    "flag_not_compared": edited(Keeping, ends=lambda result, outcome: result[:2] == outcome[:2]),
+    "sender_from_0": edited(Keeping, sender=lambda sender: sender + 1),
+    "sender_excused": edited(Keeping, excused=lambda own, sender: own == sender),
+}
+
+
+def random_log(rng):
+    """A run with its log and outcomes; half of the logs are changed as another maker's might be."""
+    lines = [(n, t, T) for n in range(1, 5) for T in range(n) for t in range(T + 1) if t + 2 * T < n]
+    run = random_run(rng, *rng.choice(lines))
+    said, outcomes = broadcast(Rules, run)
+    log = log_of(Rules, run, said)
+    if rng.random() < 0.5:
+        return run, log, outcomes, True
+    outcomes = [rng.choice(((0, 2, 0), (1, 2, 0), (1, 1, 1), (0, 0, 1), (1, 2, 1))) if rng.random() < 0.3 else one for one in outcomes]
+    for at in rng.sample(range(len(log)), min(len(log), rng.randrange(3))):
+        log[at] = rng.choice((0, 1, BLANK, SILENCE, 7))
+    if rng.random() < 0.3:
+        at = Rules.offset(run.n, 1, run.sender, 0)
+        log[at:at + run.n] = [rng.choice((BLANK, SILENCE, 7))] * run.n
+    return run, log, outcomes, False
+
+
+def broken_set(keeping, run, log, outcomes, own):
+    """Of a rehearsal's log its marks, of any the least marking."""
+    logged = Run(run.n, run.t, run.T, run.sender, 0, [False] * run.n, log)
+    found = set(broke(logged, outcomes, keeping))
+    if own and found != {i for i in range(run.n) if run.bad[i]}:
+        return "Own-logs"
+    markings = list(run_markings(logged, outcomes))
+    if found not in markings or not all(found <= one for one in markings):
+        return "Broke-least"
+    return None
+
+
+def search_logs(keeping, tries):
+    """The first theorem broken by some hundreds of logs, with its run."""
+    rng = random.Random(3)
+    for _ in range(tries):
+        run, log, outcomes, own = random_log(rng)
+        found = broken_set(keeping, run, log, outcomes, own)
+        if found:
+            return found, f"{run}{'' if own else ', changed'}"
+    return None
+
+
+# ---- both crates
+
+
+def told(name, found, none):
+    """Prints what was found, and answers whether it is as wanted: nothing where `none` says what was tried, otherwise something."""
+    if none:
+        print(f"{name}: " + (f"BREAKS {found[0]} at {found[1]}" if found else f"no theorem broken in {none}"))
+    else:
         print(f"{name}: " + (f"breaks {found[0]} at {found[1]}" if found else "BREAKS NOTHING"))
-        failed += found is None
-    checks = 1 + len(there | set(EDITED))
-    print(f"{checks - failed} passed, {failed} failed")
-    return failed != 0
+    return bool(found) != bool(none)
+
+
+def of_edits(crate, edits, find):
+    """Whether each edit of a crate's definitions breaks a theorem, and each that is there is here."""
+    there = {p.stem for p in (CRATES / crate / "must-fail").glob("*.edit")}
+    for name in sorted(there | set(edits)):
+        if name not in there or name not in edits:
+            print(f"{name}: MISSING {'here' if name in there else f'in crates/{crate}/must-fail'}")
+            yield False
+        else:
+            yield told(name, find(edits[name]), "")
+
+
+def main():
+    results = [told("as the documents have it", search(Rules, any_theorem, 4000), "4000 runs")]
+    results += of_edits("broadcast", EDITED, lambda rules: search(rules, demand_3, 4000) or search(rules, any_theorem, 40000))
+    results += [told("who broke the rules, as request 3 has it", search_logs(Keeping, 400), "400 logs")]
+    results += of_edits("rules", KEEPING, lambda keeping: search_logs(keeping, 2000))
+    print(f"{results.count(True)} passed, {results.count(False)} failed")
+    return not all(results)
 
 
 if __name__ == "__main__":

@@ -66,8 +66,13 @@ def audited(line, log, outcomes):
     causes = {2: not 1 <= n <= 32, 3: t > T or t + 2 * T >= n, 4: not 1 <= sender <= n, 8: (len(log), len(outcomes)) != lengths}
     if any(causes.values()):
         return f"refused {min(cause for cause, holds in causes.items() if holds)}\n"
-    run = model.Run(n, t, T, sender - 1, 0, [False] * n, log)
-    return "".join(["broke", *(f" {i + 1}" for i in model.broke(run, [tuple(outcomes[3 * i:3 * i + 3]) for i in range(n)])), "\n"])
+    return "".join(["broke", *(f" {i + 1}" for i in model.broke(*as_run(line, log, outcomes))), "\n"])
+
+
+def as_run(line, log, outcomes):
+    """A log as a run's table, and the outcomes by station."""
+    n, t, T, sender = line
+    return model.Run(n, t, T, sender - 1, 0, [False] * n, log), [tuple(outcomes[3 * i:3 * i + 3]) for i in range(n)]
 
 
 # ---- the sheets
@@ -265,22 +270,12 @@ def asked_of(line, log, outcomes):
         return asked(*line, *files)
 
 
-def run_markings(line, log, outcomes):
-    """The markings of a small line under which the log is a run, itself as the table, with the outcomes of unmarked stations as logged."""
-    n, t, T, sender = line
-    for bad in itertools.product((False, True), repeat=n):
-        for value in 0, 1:
-            made, ends = logged(model.Run(n, t, T, sender - 1, value, bad, log))
-            if made == log and all(bad[i] or ends[3 * i:3 * i + 3] == outcomes[3 * i:3 * i + 3] for i in range(n)):
-                yield {i + 1 for i in range(n) if bad[i]}
-
-
 def audits():
     """What the program audit prints of each log; of the log of each sheet's run, its marks."""
     for name, made in logs().items():
         told = audited(*made)
         yield f"{name}: the program prints who broke the rules", asked_of(*made) == (0, told, "")
-        markings, broke = list(run_markings(*made)), {int(word) for word in told.split()[1:]}
+        markings, broke = list(model.run_markings(*as_run(*made))), {int(word) - 1 for word in told.split()[1:]}
         yield f"{name}: the set is the least marking", broke in markings and all(broke <= one for one in markings)
     yield "foreign: stations 3 and 4", audited(*foreign()) == "broke 3 4\n"
     for name, sheet in sheets().items():

@@ -3,6 +3,8 @@ logs.
 
 Stations are counted from 0 and rounds from 1, as in the definitions of crate broadcast.
 """
+import itertools
+
 BLANK, SILENCE = 2, 255
 
 
@@ -143,16 +145,42 @@ class Station:
         return self.round
 
 
-def keeps_rules(log, own, value, outcome):
-    """Whether this value of its own, "with the rows it received, makes it send its logged bytes and end with its logged outcome". The log is a run's table."""
-    one, stations = Station(Rules, log, own, value), range(log.n)
+class Keeping:
+    """Ticket 3's own: who keeps the rules. The log is a run's table. An edit replaces one of them."""
+
+    # "a value of its own"
+    values = (0, 1)
+    # "the rows it received"
+    row = staticmethod(lambda log, r, own, value: [log.entry(r, i, own) for i in range(log.n)])
+    # "send its logged bytes": to these
+    receivers = staticmethod(lambda n: range(n))
+    # "and end with its logged outcome"
+    ends = staticmethod(lambda result, outcome: result == outcome)
+    sender = staticmethod(lambda sender: sender)
+    excused = staticmethod(lambda own, sender: False)
+
+
+def keeps_with(keeping, log, own, value, outcome):
+    """Whether this value, "with the rows it received, makes it send its logged bytes and end with its logged outcome"."""
+    line = Run(log.n, log.t, log.T, keeping.sender(log.sender), value, log.bad, log.table)
+    one = Station(Rules, line, own, value)
     for r in range(1, log.rounds + 1):
-        if any(log.entry(r, own, j) != one.ballot() for j in stations):
+        if any(log.entry(r, own, j) != one.ballot() for j in keeping.receivers(log.n)):
             return False
-        one.take([log.entry(r, i, own) for i in stations])
-    return one.result() == outcome
+        one.take(keeping.row(log, r, own, value))
+    return keeping.ends(one.result(), outcome)
 
 
-def broke(log, outcomes):
+def broke(log, outcomes, keeping=Keeping):
     """The stations that broke the rules: "A station is in it exactly if no value of its own" does."""
-    return [i for i in range(log.n) if not any(keeps_rules(log, i, value, outcomes[i]) for value in (0, 1))]
+    return [i for i in range(log.n) if not keeping.excused(i, log.sender)
+            and not any(keeps_with(keeping, log, i, value, outcomes[i]) for value in keeping.values)]
+
+
+def run_markings(log, outcomes):
+    """The markings of a small line "under which the log is a run", itself as the table, "with the outcomes of unmarked stations as logged"."""
+    for bad, value in itertools.product(itertools.product((False, True), repeat=log.n), (0, 1)):
+        run = Run(log.n, log.t, log.T, log.sender, value, bad, log.table)
+        said, ends = broadcast(Rules, run)
+        if log_of(Rules, run, said) == list(log.table) and all(bad[i] or ends[i] == outcomes[i] for i in range(log.n)):
+            yield {i for i in range(log.n) if bad[i]}

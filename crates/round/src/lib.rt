@@ -64,15 +64,22 @@ fn speaker_within(n: u8, sender: u8, part: Part) -> bool
 }
 
 // The stations after the round that the log has from `start` on. Where the log has no such round, or its speaker is none of the n, they stay as they are.
-pub fn take(line: Line, sender: u8, part: Part, s: Stations, log: &[u8], start: usize) -> Stations
-    ensures { λ r. ⌜ Takes (line .n) (line .t) (line .upper) sender part s (now (log .entry)) start r ⌝ }
+pub fn take(
+    line: Line,
+    sender: u8,
+    part: Part,
+    before: Stations,
+    log: &[u8],
+    start: usize,
+) -> Stations
+    ensures { λ r. ⌜ Takes (line .n) (line .t) (line .upper) sender part before (now (log .entry)) start r ⌝ }
 {
     if speaker_within(line.n, sender, part) {
         if line.has_round(start, log.len()) {
-            return take_all(line, sender, part, s, log, start);
+            return take_all(line, sender, part, before, log, start);
         }
     }
-    s
+    before
 }
 
 // The round whose bytes start at `start`. Where it has no room in the log or the table, or its speaker is none of the n, nothing is written and the stations stay
