@@ -21,6 +21,10 @@ kept-on n said bytes start kept i = if has-round n start (length bytes) then unl
 
 -- ---- for private functions
 
+-- the n bytes from a on are b
+unfoldable pub all-are : List ℕ → ℕ → ℕ → ℕ → Bool
+all-are bytes a n b = all n (λ j. eqb (getD bytes (a + j) 0) b)
+
 -- how many of the n bytes from a on are b
 unfoldable pub equal-bytes : List ℕ → ℕ → ℕ → ℕ → ℕ
 equal-bytes bytes a n b = count n (λ j. eqb (getD bytes (a + j) 0) b)

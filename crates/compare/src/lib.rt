@@ -1,11 +1,10 @@
 // What the stations send in a round, beside what they should: a sender's bytes to all stand side by side in the log.
 ghost use mathlib.Core.Path.{_≡_};
 ghost use Prim.Native.Nat.{_+_, _*_, _≤_};
-ghost use lib.Dec.{eqb};
 ghost use lib.ListN.{length};
 ghost use Rattle.line.specs.Count.{if_then_else_};
 ghost use Rattle.line.specs.Writing.{Each};
-ghost use Rattle.compare.specs.Compare.{equal-bytes, unless-other, kept-on};
+ghost use Rattle.compare.specs.Compare.{equal-bytes, all-are, unless-other, kept-on};
 use line::Line;
 
 // How many of the n bytes from `at` on are b.
@@ -24,11 +23,25 @@ fn equal(bytes: &[u8], at: usize, n: usize, b: u8) -> u8
     count
 }
 
-// What was kept before, if as many bytes are equal as there are receivers, otherwise 0.
-fn unless_other(kept: u8, equal: u8, n: usize) -> u8
-    ensures { λ r. ⌜ r ≡ (if eqb equal n then kept else 0) ⌝ }
+// Whether the n bytes from `at` on are b. Blocks of a fixed length are the quickest, so that from 16 bytes on the first 16 and the last 16 are looked at.
+fn all_are(bytes: &[u8], at: usize, n: usize, b: u8) -> bool
+    requires { ⌜ (n ≤ 32) × (at + n ≤ length (now bytes)) ⌝ }
+    ensures { λ r. ⌜ r ≡ all-are (now (bytes .entry)) at n b ⌝ }
 {
-    if equal as usize == n { kept } else { 0 }
+    if 16 <= n {
+        if equal(bytes, at, 16, b) < 16 {
+            return false;
+        }
+        return equal(bytes, at + (n - 16), 16, b) == 16;
+    }
+    equal(bytes, at, n, b) as usize == n
+}
+
+// What was kept before, if it is the same to all, otherwise 0.
+fn unless_other(kept: u8, same: bool) -> u8
+    ensures { λ r. ⌜ r ≡ (if same then kept else 0) ⌝ }
+{
+    if same { kept } else { 0 }
 }
 
 // All senders of the round whose bytes start at `start`.
@@ -40,8 +53,8 @@ fn all_senders(bytes: &[u8], start: usize, n: usize, said: &[u8; 32], kept: [u8;
     let mut i: usize = 0;
     let mut at = start;
     while i < n {
-        let same = equal(bytes, at, n, said[i]);
-        next[i] = unless_other(kept[i], same, n);
+        let same = all_are(bytes, at, n, said[i]);
+        next[i] = unless_other(kept[i], same);
         at += n;
         i += 1;
     }

@@ -24,11 +24,11 @@ loop-holds c =
     let s = c .before in
     (omega arith, omega (arith, zero-mul (s .args .n)), refl, each-none _ _)
 
-element-copy-out-equal : tie.Need-element-copy-out-equal Inv-loop μ-loop
-element-copy-out-equal c = omega (arith, c .before .before .before .pre .0)
+element-copy-out-all-are : tie.Need-element-copy-out-all-are Inv-loop μ-loop
+element-copy-out-all-are c = omega (arith, c .before .before .before .pre .0)
 
-equal-requires : tie.Need-equal-requires Inv-loop μ-loop
-equal-requires c κs =
+all-are-requires : tie.Need-all-are-requires Inv-loop μ-loop
+all-are-requires c κs =
     let a = c .before .before in
     let s = a .before .before in
     let w = row-within (a .loop .i) (s .args .n) (s .args .n) (omega arith) in
@@ -63,12 +63,12 @@ loop-again c =
     let a = c .before .before .before .before in
     let s = a .before .before in
     let g = s .args in
-    let equal = rw (a .loop .inv .1) at (c .before .equal .ensures) in (
+    let same = rw (a .loop .inv .1) at (c .before .all-are .ensures) in (
       omega arith,
       omega (arith, next-row (a .loop .i) (g .n), a .loop .inv .1),
       simp length-set (a .loop .inv .2),
       each-turn (a .loop .next) _ (a .loop .i) _ (omega (arith, a .loop .inv .2, s .pre .0)) (a .loop .inv .3)
-          (c .unless-other .ensures ∙ one-sender (g .bytes .now) (g .start) (g .n) (g .said .now) _ (a .loop .i) _ equal),
+          (c .unless-other .ensures ∙ one-sender (g .bytes .now) (g .start) (g .n) (g .said .now) _ (a .loop .i) _ same),
     )
 
 returns : tie.Need-returns Inv-loop μ-loop
@@ -84,8 +84,8 @@ all-senders-spec =
     Inv-loop
     μ-loop
     loop-holds
-    element-copy-out-equal
-    equal-requires
+    element-copy-out-all-are
+    all-are-requires
     array-read-unless-other
     unless-other-requires
     array-write-next
