@@ -97,4 +97,16 @@ static inline struct guarded guarded_page(void)
     return guarded_pages(1);
 }
 
+/* The bytes at the end of their pages, which can only be read then. */
+static inline const uint8_t *guarded_bytes(struct guarded g, const uint8_t *bytes, size_t len)
+{
+    uint8_t *at = g.page + g.size - len;
+    if (bytes == NULL)
+        return NULL;
+    mprotect(g.page, g.size, PROT_READ | PROT_WRITE);
+    memcpy(at, bytes, len);
+    mprotect(g.page, g.size, PROT_READ);
+    return at;
+}
+
 #endif

@@ -26,22 +26,10 @@ static struct guarded log_area, outcomes_area;
 static struct draft base, one, two;
 static uint8_t table[TABLE];
 
-/* The bytes at the end of their pages, which can only be read then. */
-static const uint8_t *lay(struct guarded g, const uint8_t *bytes, size_t len)
-{
-    uint8_t *at = g.page + g.size - len;
-    if (bytes == NULL)
-        return NULL;
-    mprotect(g.page, g.size, PROT_READ | PROT_WRITE);
-    memcpy(at, bytes, len);
-    mprotect(g.page, g.size, PROT_READ);
-    return at;
-}
-
 static uint64_t checked(const struct checking *k)
 {
-    const uint8_t *log = lay(log_area, k->log, k->log_len);
-    const uint8_t *outcomes = lay(outcomes_area, k->outcomes, k->outcomes_len);
+    const uint8_t *log = guarded_bytes(log_area, k->log, k->log_len);
+    const uint8_t *outcomes = guarded_bytes(outcomes_area, k->outcomes, k->outcomes_len);
     return vembopu_check((uint8_t)k->n, (uint8_t)k->t, (uint8_t)k->T, (uint8_t)k->sender, log, k->log_len, outcomes,
                          k->outcomes_len);
 }

@@ -191,12 +191,12 @@ uint64_t vembopu_check(uint8_t n, uint8_t t, uint8_t upper, uint8_t sender,
                        const uint8_t *log, size_t log_len,
                        const uint8_t *outcomes, size_t outcomes_len);
 
-/* Of vembopu_check: the stations that broke the rules, as marks; 0 if refused,
-   and if there are none. */
+/* Of vembopu_check: the stations that broke the rules, as marks; 0 if there are
+   none. All 32 bits if refused: no station then passes for one that kept them. */
 static inline uint32_t vembopu_broke(uint64_t answer)
 {
     if (vembopu_refusal(answer) != 0)
-        return 0;
+        return 0xffffffffu;
     return (uint32_t)(answer & 0xffffffffu);
 }
 

@@ -55,7 +55,7 @@ static int held_refused(uint64_t a, uint32_t number)
 {
     const struct parts want = {number, NONE, 0, 0, 0, NONE, NONE, NONE};
     return held(a, want) && undecided(a) && vembopu_needed_bytes(a) == 0 && vembopu_records(a) == 0 &&
-           vembopu_broke(a) == 0;
+           vembopu_broke(a) == 0xffffffffu;
 }
 
 /* ---- Refused ---- */

@@ -20,18 +20,6 @@ enum { UNWRITTEN = 170, BLOCK = 1000, BLOCKS = 12, NUMBERS = 15 };
 static struct guarded header_area, table_area, sheet_area;
 static uint8_t wanted[LONGEST_SHEET];
 
-/* The bytes at the end of their pages, which can only be read then. */
-static const uint8_t *lay(struct guarded g, const uint8_t *bytes, size_t len)
-{
-    uint8_t *at = g.page + g.size - len;
-    if (bytes == NULL)
-        return NULL;
-    mprotect(g.page, g.size, PROT_READ | PROT_WRITE);
-    memcpy(at, bytes, len);
-    mprotect(g.page, g.size, PROT_READ);
-    return at;
-}
-
 /* The sheet's place, unwritten, on pages that can be written only if asked. */
 static uint8_t *lay_sheet(size_t len, int writable)
 {
@@ -68,8 +56,8 @@ static int told(const char *name, const struct writing *w, uint64_t got, uint64_
 /* 1 if both calls answer, and the second writes, as the model. */
 static int agrees(const struct writing *w)
 {
-    const uint8_t *header = lay(header_area, w->header, w->header_len);
-    const uint8_t *table = lay(table_area, w->table, w->table_len);
+    const uint8_t *header = guarded_bytes(header_area, w->header, w->header_len);
+    const uint8_t *table = guarded_bytes(table_area, w->table, w->table_len);
     memset(wanted, UNWRITTEN, sizeof wanted);
     uint64_t want_len = model_sheet_len(w), want = model_write(w, wanted);
     uint8_t *sheet = lay_sheet(w->sheet_len, vembopu_refusal(want) == 0);
