@@ -3,4 +3,5 @@
 pub mod FollowLaws
 pub mod MarkLaws
 pub mod AnswerLaws
+pub mod CallLaws
 pub mod Theorems

@@ -35,23 +35,23 @@ use Rattle.rehearsal.specs.Calls.{Singly, MadeOfCalls, Values, SingleSta
 
 -- ---- a call's answer, the same for the same station, has one value
 
-same-ready : {o : Opened} {a b : Station} → o ≡ Ready a → o ≡ Ready b → a ≡ b
+pub same-ready : {o : Opened} {a b : Station} → o ≡ Ready a → o ≡ Ready b → a ≡ b
 same-ready p q = cc
 
-same-next : (f : Station → Advanced) {s s′ a b : Station} → s ≡ s′ → f s ≡ Next a → f s′ ≡ Next b → a ≡ b
+pub same-next : (f : Station → Advanced) {s s′ a b : Station} → s ≡ s′ → f s ≡ Next a → f s′ ≡ Next b → a ≡ b
 same-next f e p q = cc
 
-same-ballot : (f : Station → Told) {s s′ : Station} {a b : ℕ} → s ≡ s′ → f s ≡ Ballot a → f s′ ≡ Ballot b → a ≡ b
+pub same-ballot : (f : Station → Told) {s s′ : Station} {a b : ℕ} → s ≡ s′ → f s ≡ Ballot a → f s′ ≡ Ballot b → a ≡ b
 same-ballot f e p q = cc
 
-same-result : (f : Station → StationResult) {s s′ : Station} {a b c a′ b′ c′ : ℕ} → s ≡ s′ → f s ≡ Done a b c → f s′ ≡ Done a′ b′ c′
+pub same-result : (f : Station → StationResult) {s s′ : Station} {a b c a′ b′ c′ : ℕ} → s ≡ s′ → f s ≡ Done a b c → f s′ ≡ Done a′ b′ c′
     → (a ≡ a′) × (b ≡ b′) × (c ≡ c′)
 same-result f e p q = (cc, cc, cc)
 
-same-done : {r : Result} {a b c a′ b′ c′ : ℕ} → r ≡ done a b c → r ≡ done a′ b′ c′ → Done a b c ≡ Done a′ b′ c′
+pub same-done : {r : Result} {a b c a′ b′ c′ : ℕ} → r ≡ done a b c → r ≡ done a′ b′ c′ → Done a b c ≡ Done a′ b′ c′
 same-done p q = cc
 
-row-whole : (n : ℕ) (bytes : List ℕ) (i r : ℕ) → length (column n bytes i r) ≡ n
+pub row-whole : (n : ℕ) (bytes : List ℕ) (i r : ℕ) → length (column n bytes i r) ≡ n
 unfolding column
 row-whole n bytes i r = length-tabulate n _
 
