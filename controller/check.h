@@ -97,6 +97,27 @@ static inline struct guarded guarded_page(void)
     return guarded_pages(1);
 }
 
+/* The byte above; 255 + 1 is 0. */
+static inline int after(int byte)
+{
+    return (byte + 1) & 255;
+}
+
+/* What causes 2, 3 and 4 refuse of a line and its sender, each by the test's own
+   FAULT(name, statement), of a c that has n, t, T and sender. */
+#define LINE_FAULTS                                               \
+    FAULT(n_0, c->n = 0)                                          \
+    FAULT(n_33, c->n = 33)                                        \
+    FAULT(n_255, c->n = 255)                                      \
+    FAULT(t_above, c->t = after(c->T))                            \
+    FAULT(t_255, c->t = 255)                                      \
+    FAULT(sum_is_n, c->t = c->n % 2; c->T = c->n / 2)             \
+    FAULT(sum_256, c->t = 2; c->T = 127)                          \
+    FAULT(sum_512, c->t = 170; c->T = 171)                        \
+    FAULT(sender_0, c->sender = 0)                                \
+    FAULT(sender_above, c->sender = after(c->n))                  \
+    FAULT(sender_255, c->sender = 255)
+
 /* The bytes at the end of their pages, which can only be read then. */
 static inline const uint8_t *guarded_bytes(struct guarded g, const uint8_t *bytes, size_t len)
 {

@@ -64,35 +64,19 @@ static void rehearse(struct draft *d, int n, int t, int T, int sender, int value
 
 /* ---- Each cause, and each pair ---- */
 
-/* The byte above; 255 + 1 is 0. */
-static int after(int byte)
-{
-    return (byte + 1) & 255;
-}
-
 #define FAULT(name, statement)           \
-    static void name(struct checking *k) \
+    static void name(struct checking *c) \
     {                                    \
         statement;                       \
     }
 
-FAULT(n_0, k->n = 0)
-FAULT(n_33, k->n = 33)
-FAULT(n_255, k->n = 255)
-FAULT(t_above, k->t = after(k->T))
-FAULT(t_255, k->t = 255)
-FAULT(sum_is_n, k->t = k->n % 2; k->T = k->n / 2)
-FAULT(sum_256, k->t = 2; k->T = 127)
-FAULT(sum_512, k->t = 170; k->T = 171)
-FAULT(sender_0, k->sender = 0)
-FAULT(sender_above, k->sender = after(k->n))
-FAULT(sender_255, k->sender = 255)
-FAULT(log_short, k->log_len = base.k.log_len - 1)
-FAULT(log_long, k->log_len = base.k.log_len + 1)
-FAULT(log_null, k->log = NULL; k->log_len = 0)
-FAULT(outcomes_short, k->outcomes_len = base.k.outcomes_len - 1)
-FAULT(outcomes_long, k->outcomes_len = base.k.outcomes_len + 1)
-FAULT(outcomes_null, k->outcomes = NULL; k->outcomes_len = 0)
+LINE_FAULTS
+FAULT(log_short, c->log_len = base.k.log_len - 1)
+FAULT(log_long, c->log_len = base.k.log_len + 1)
+FAULT(log_null, c->log = NULL; c->log_len = 0)
+FAULT(outcomes_short, c->outcomes_len = base.k.outcomes_len - 1)
+FAULT(outcomes_long, c->outcomes_len = base.k.outcomes_len + 1)
+FAULT(outcomes_null, c->outcomes = NULL; c->outcomes_len = 0)
 
 /* In the order of refusals. */
 static const struct fault {

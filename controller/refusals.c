@@ -140,29 +140,13 @@ static int agrees(int call, const struct call *c)
 
 /* ---- Each cause, and each pair ---- */
 
-/* The byte above; 255 + 1 is 0. */
-static int after(int byte)
-{
-    return (byte + 1) & 255;
-}
-
 #define FAULT(name, statement)          \
     static void name(struct call *c)    \
     {                                   \
         statement;                      \
     }
 
-FAULT(n_0, c->n = 0)
-FAULT(n_33, c->n = 33)
-FAULT(n_255, c->n = 255)
-FAULT(t_above, c->t = after(c->T))
-FAULT(t_255, c->t = 255)
-FAULT(sum_is_n, c->t = c->n % 2; c->T = c->n / 2)
-FAULT(sum_256, c->t = 2; c->T = 127)
-FAULT(sum_512, c->t = 170; c->T = 171)
-FAULT(sender_0, c->sender = 0)
-FAULT(sender_above, c->sender = after(c->n))
-FAULT(sender_255, c->sender = 255)
+LINE_FAULTS
 FAULT(own_0, c->own = 0)
 FAULT(own_above, c->own = after(c->n))
 FAULT(own_255, c->own = 255)

@@ -89,12 +89,6 @@ static void copy(struct draft *to, const struct draft *from)
     to->w.table = from->w.table == NULL ? NULL : to->table;
 }
 
-/* The byte above; 255 + 1 is 0. */
-static uint8_t after(uint8_t byte)
-{
-    return (uint8_t)(byte + 1);
-}
-
 /* A record more: the first byte of silence gets a ballot. */
 static void add_record(struct draft *d)
 {
@@ -117,12 +111,12 @@ FAULT(byte_5_255, d->header[5] = 255)
 FAULT(n_0, d->header[0] = 0)
 FAULT(n_33, d->header[0] = 33)
 FAULT(n_255, d->header[0] = 255)
-FAULT(t_above, d->header[1] = after(d->header[2]))
+FAULT(t_above, d->header[1] = (uint8_t)after(d->header[2]))
 FAULT(sum_is_n, d->header[1] = d->header[0] % 2; d->header[2] = d->header[0] / 2)
 FAULT(sum_256, d->header[1] = 2; d->header[2] = 127)
 FAULT(sum_512, d->header[1] = 170; d->header[2] = 171)
 FAULT(sender_0, d->header[3] = 0)
-FAULT(sender_above, d->header[3] = after(d->header[0]))
+FAULT(sender_above, d->header[3] = (uint8_t)after(d->header[0]))
 FAULT(value_2, d->header[4] = 2)
 FAULT(value_255, d->header[4] = 255)
 FAULT(mark_above, d->header[8 + base.header[0] / 8] |= (uint8_t)(1 << base.header[0] % 8))
