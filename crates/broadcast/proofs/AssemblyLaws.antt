@@ -11,15 +11,18 @@ use lib.ListN.{length, getD}
 use lib.Seq.{ext-getD}
 use Rattle.line.specs.Line.{Fits, from-0, rounds, place}
 use Rattle.line.specs.Marks.{marked}
-use Rattle.line.proofs.CountLaws.{if-true}
+use Rattle.line.proofs.CountLaws.{if-true, count-same}
 use Rattle.broadcast.specs.Exchange.{sends}
-use Rattle.broadcast.specs.Broadcast.{value-of, final-grade, final-flag, said, sent}
+use Rattle.broadcast.specs.Broadcast.{value-of, final-grade, final-flag, part, said, sent}
+use Rattle.broadcast.specs.Garbled.{received, garbled-in, garbled-rounds}
 use Rattle.broadcast.specs.Station.{State, running, done, ballot, result, at, after}
 use Rattle.broadcast.specs.Bytes.{setting, Run, setting-of, log, outcomes, setup, column}
 use Rattle.broadcast.specs.Guarantees.{Good}
-use Rattle.broadcast.specs.Theorems.{value-at, grade-at, flag-at, Follows, PutTogether, MakeRun}
+use Rattle.broadcast.specs.Theorems.{value-at, grade-at, flag-at, garbled-at, Follows, PutTogether, MakeRun}
 use Rattle.broadcast.proofs.ExchangeLaws.{good-sends}
-use Rattle.broadcast.proofs.BytesLaws.{sender-inside, kings-inside, log-size, log-at, column-at, good-value, good-grade, good-flag}
+use Rattle.broadcast.proofs.BytesLaws.{sender-inside, kings-inside, log-size, log-at, column-at, good-value, good-grade, good-flag, good-count}
+use Rattle.broadcast.proofs.RowLaws.{some-same}
+use Rattle.broadcast.proofs.RoundLaws.{after-count}
 use Rattle.broadcast.proofs.StationLaws.{Knows, knows-after, tells, is-running, is-done}
 
 -- ---- bytes laid out like a table, from their places
@@ -83,18 +86,28 @@ module _ (R : Run) (fits : Fits (R .n) (R .t) (R .T)) (low : 1 ≤ R .sender) (h
         is-running (setting-of R) (from-0 (R .sender)) (R .value) in-line few j v (suc m) (its-state m) l
         (knows m (omega arith) agree)
 
+    -- its count is the run's
+    counts : Agree bytes (rounds (R .t)) → its-state (rounds (R .t)) .garbled ≡ garbled-rounds (setting-of R) (from-0 (R .sender)) (R .value) j
+    unfolding its-state setup setting S-sent garbled-rounds garbled-in received
+    counts agree =
+        after-count (setup R j) v (column (R .n) bytes j) (rounds (R .t))
+        ∙ count-same (rounds (R .t)) _ _ (λ m l.
+        some-same (R .n) (from-0 (R .sender)) (part (suc m)) _ _ (λ i h _. column-at (R .n) bytes j (suc m) i h ∙ agree (suc m) i j (omega arith) l h inside))
+
     ends : marked (R .marks) j ≡ false → Agree bytes (rounds (R .t))
         → result (setup R j) (its-state (rounds (R .t)))
-        ≡ done (value-at (outcomes R) j) (grade-at (outcomes R) j) (flag-at (outcomes R) j)
+        ≡ done (value-at (outcomes R) j) (grade-at (outcomes R) j) (flag-at (outcomes R) j) (garbled-at (outcomes R) j)
     unfolding setup setting outcomes
     ends good agree =
         let S = setting-of R in
         let y = value-of S (from-0 (R .sender)) (R .value) in
         let g = final-grade S (from-0 (R .sender)) (R .value) in
         let f = final-flag S (from-0 (R .sender)) (R .value) in
+        let k = garbled-rounds S (from-0 (R .sender)) (R .value) in
+        let h : Good (R .n) (marked (R .marks)) j = (inside, good) in
         is-done S (from-0 (R .sender)) (R .value) in-line few j v (its-state (rounds (R .t)))
         (knows (rounds (R .t)) (omega arith) agree)
-        ∙ rw (good-value S y g f j (inside, good), good-grade S y g f j (inside, good), good-flag S y g f j (inside, good))
+        ∙ rw (counts agree, good-value S y g f k j h, good-grade S y g f k j h, good-flag S y g f k j h, good-count S y g f k j h)
 
   good-sent : (r i j : ℕ) → marked (R .marks) i ≡ false → S-sent r i j ≡ said (setting-of R) (from-0 (R .sender)) (R .value) r i
   unfolding S-sent sent setting

@@ -10,15 +10,33 @@ use borrow.Author.Tests.{eqb-true, eqb-false}
 use lib.Dec.{eqb}
 use Rattle.line.specs.Line.{Fits}
 use Rattle.line.specs.Marks.{faults}
-use Rattle.line.specs.Ballot.{read-sender}
+use Rattle.line.specs.Ballot.{sender-value, read-king}
 use Rattle.line.proofs.CountLaws.{mono, widen, witness}
-use Rattle.line.proofs.BallotLaws.{read-sender-bit, read-sender-keeps}
-use Rattle.broadcast.specs.Exchange.{Setting, sends, flag-of}
-use Rattle.broadcast.specs.Broadcast.{obey, phases, first-round, x-after, y-after, grade-after, value-of, final-grade, final-flag}
+use Rattle.line.proofs.BallotLaws.{sender-value-bit, sender-value-keeps}
+use Rattle.broadcast.specs.Exchange.{Setting, sends, z, flag-of}
+use Rattle.broadcast.specs.Broadcast.{obey, phases, first-round, x-after, z-after, y-after, grade-after, value-of, final-grade, final-flag}
 use Rattle.broadcast.specs.Guarantees.{Good, GradedConsensus, TwoThreshold}
 use Rattle.broadcast.specs.Theorems.{Unflagged-agree, Enough-unflagged, Enough-flags, Enough-show}
-use Rattle.broadcast.proofs.TallyLaws.{flag-means, flag-bit, obey-means, obey-bit, obey-king}
+use Rattle.broadcast.proofs.TallyLaws.{flag-means, flag-bit, z-bound, obey-means, obey-bit, obey-king}
 use Rattle.broadcast.proofs.ExchangeLaws.{faults-of, All, good-sends, y-is-bit, graded-consensus}
+
+-- ---- x, y and z are in their ranges at every station, whatever is sent
+
+module _ (S : Setting) (sender-from-0 value : ℕ) where
+  pub y-after-bit : (p j : ℕ) → y-after S sender-from-0 value p j ≤ 1
+  unfolding y-after
+  y-after-bit p j = y-is-bit S (first-round p) (x-after S sender-from-0 value p) j
+
+  pub x-after-bit : (p j : ℕ) → x-after S sender-from-0 value p j ≤ 1
+  unfolding x-after y-after
+  x-after-bit zero j = sender-value-bit _
+  x-after-bit (suc p) j = obey-bit _ (y-after S sender-from-0 value p j) _ (y-after-bit p j)
+
+  pub z-after-bound : (p j : ℕ) → z-after S sender-from-0 value p j ≤ 2
+  unfolding z-after z
+  z-after-bound p j = z-bound (S .n) (S .T) (x-after S sender-from-0 value p j) _ (x-after-bit p j)
+
+-- ---- demand 3
 
 module _ (S : Setting) (fits : Fits (S .n) (S .t) (S .T)) (sender-from-0 value : ℕ) where
   X : ℕ → ℕ → ℕ
@@ -31,18 +49,17 @@ module _ (S : Setting) (fits : Fits (S .n) (S .t) (S .T)) (sender-from-0 value :
   G = grade-after S sender-from-0 value
 
   Y-bit : (p j : ℕ) → Y p j ≤ 1
-  unfolding Y y-after
-  Y-bit p j = y-is-bit S (first-round p) (x-after S sender-from-0 value p) j
+  unfolding Y
+  Y-bit = y-after-bit S sender-from-0 value
 
   -- what a phase does
-  phase : (p j : ℕ) → X (suc p) j ≡ obey (G p j) (Y p j) (sends S (first-round p + 2) p j (Y p p))
+  phase : (p j : ℕ) → X (suc p) j ≡ obey (G p j) (Y p j) (read-king (sends S (first-round p + 2) p j (Y p p)))
   unfolding X Y G x-after y-after grade-after
   phase p j = refl
 
   X-bit : (p j : ℕ) → X p j ≤ 1
-  unfolding X x-after
-  X-bit zero j = read-sender-bit _
-  X-bit (suc p) j = rw (phase p j) (obey-bit (G p j) (Y p j) _ (Y-bit p j))
+  unfolding X
+  X-bit = x-after-bit S sender-from-0 value
 
   -- the exchange that p phases precede
   exchange : (p : ℕ) → GradedConsensus (S .n) (S .t) (S .T) (S .bad) (X p) (Y p) (G p)
@@ -64,7 +81,7 @@ module _ (S : Setting) (fits : Fits (S .n) (S .t) (S .T)) (sender-from-0 value :
   good-king f p king j g =
       rw (phase p j, good-sends S (first-round p + 2) p j (Y p p) (king .1)) (go (eq-zero-or-pos (G p j)))
     where
-      go : (G p j ≡ 0) ⊎ (0 < G p j) → obey (G p j) (Y p j) (Y p p) ≡ Y p p
+      go : (G p j ≡ 0) ⊎ (0 < G p j) → obey (G p j) (Y p j) (read-king (Y p p)) ≡ Y p p
       go (inl e) = rw e (obey-king (Y p j) (Y p p) (Y-bit p p))
       go (inr e) = obey-means (G p j) (Y p j) _ .1 e ∙ sym (exchange p .detection-at-t f j g e p king)
 
@@ -80,7 +97,7 @@ module _ (S : Setting) (fits : Fits (S .n) (S .t) (S .T)) (sender-from-0 value :
 
   started : value ≤ 1 → S .bad sender-from-0 ≡ false → All S (X 0) value
   unfolding X x-after
-  started bit good j g = ap read-sender (good-sends S 1 sender-from-0 j value good) ∙ read-sender-keeps value bit
+  started bit good j g = ap sender-value (good-sends S 1 sender-from-0 j value good) ∙ sender-value-keeps value bit
 
   -- ---- the last exchange
 

@@ -7,16 +7,17 @@ use native.Mathlib.Omega.{arith}
 use lib.Dec.{eqb}
 use lib.ListN.{length, getD}
 use Rattle.line.specs.Count.{if_then_else_}
-use Rattle.line.specs.Line.{Fits, from-0, rounds, table-length, outcomes-length, place}
+use Rattle.line.specs.Line.{Fits, from-0, rounds, table-length, outcome-size, outcomes-length, place}
 use Rattle.line.specs.Marks.{marked}
-use Rattle.line.proofs.CountLaws.{if-true, if-false}
+use Rattle.line.proofs.CountLaws.{if-true, if-false, count-le}
 use Rattle.line.proofs.LineLaws.{place-in-round, place-below, place-round, place-from, place-to}
 use Rattle.broadcast.specs.Exchange.{Setting, y, grade, flag-of}
 use Rattle.broadcast.specs.Broadcast.{phases, value-of, final-grade, final-flag, y-after, grade-after, first-round, x-after, sent}
+use Rattle.broadcast.specs.Garbled.{garbled-rounds, garbled-first, garbled-second, garbled-alone}
 use Rattle.broadcast.specs.Station.{at}
-use Rattle.broadcast.specs.Bytes.{tabulate, setting, outcome-byte, outcome-bytes, exchange-outcomes, Run, setting-of, log-byte, log, outcomes, column}
+use Rattle.broadcast.specs.Bytes.{tabulate, setting, pick, outcome-byte, outcome-bytes, exchange-outcomes, Run, setting-of, log-byte, log, outcomes, column}
 use Rattle.broadcast.specs.Guarantees.{Good, GradedConsensus, TwoThreshold}
-use Rattle.broadcast.specs.Theorems.{value-at, grade-at, flag-at, Definition-6-alone, OutcomeBytes, Exchange-bytes, Outcome-bytes, Demand-3}
+use Rattle.broadcast.specs.Theorems.{value-at, grade-at, flag-at, garbled-at, Definition-6-alone, OutcomeBytes, Exchange-bytes, Outcome-bytes, Demand-3}
 use Rattle.broadcast.proofs.TallyLaws.{grade-bound}
 use Rattle.broadcast.proofs.ExchangeLaws.{y-is-bit, graded-consensus}
 use Rattle.broadcast.proofs.BroadcastLaws.{two-threshold}
@@ -79,62 +80,70 @@ column-at n bytes j r i h = at-tabulate n _ i h
 
 -- ---- outcomes
 
-module _ (S : Setting) (v g f : ℕ → ℕ) where
-  pub outcome-size : length (outcome-bytes S v g f) ≡ outcomes-length (S .n)
+module _ (S : Setting) (v g f c : ℕ → ℕ) where
+  pub outcome-length : length (outcome-bytes S v g f c) ≡ outcomes-length (S .n)
   unfolding outcome-bytes
-  outcome-size = length-tabulate _ _
+  outcome-length = length-tabulate _ _
 
-  -- byte d, which is 0, 1 or 2, of station i
-  pub outcome-byte-at : (i d : ℕ) → d < 3
-      → outcome-byte S v g f (3 * i + d) ≡ (if S .bad i then 255 else (if eqb d 0 then v i else (if eqb d 1 then g i else f i)))
+  -- byte d of station i
+  pub outcome-byte-at : (i d : ℕ) → d < outcome-size
+      → outcome-byte S v g f c (outcome-size * i + d) ≡ (if S .bad i then 255 else pick (v i) (g i) (f i) (c i) d)
   unfolding outcome-byte
   outcome-byte-at i d l =
-      let m : (3 * i + d) % 3 ≡ d = omega arith in
-      let q : (3 * i + d) / 3 ≡ i = omega arith in
+      let m : (outcome-size * i + d) % outcome-size ≡ d = omega arith in
+      let q : (outcome-size * i + d) / outcome-size ≡ i = omega arith in
       simp (m, q)
 
-  triple : (i d : ℕ) → i < S .n → d < 3
-      → at (outcome-bytes S v g f) (3 * i + d) ≡ (if S .bad i then 255 else (if eqb d 0 then v i else (if eqb d 1 then g i else f i)))
+  byte-of : (i d : ℕ) → i < S .n → d < outcome-size
+      → at (outcome-bytes S v g f c) (outcome-size * i + d) ≡ (if S .bad i then 255 else pick (v i) (g i) (f i) (c i) d)
   unfolding outcome-bytes
-  triple i d h l = at-tabulate _ _ _ (omega arith) ∙ outcome-byte-at i d l
+  byte-of i d h l = at-tabulate _ _ _ (omega arith) ∙ outcome-byte-at i d l
 
-  value-byte : (i : ℕ) → i < S .n → value-at (outcome-bytes S v g f) i ≡ (if S .bad i then 255 else v i)
-  value-byte i h = let e : 3 * i ≡ 3 * i + 0 = omega arith in rw e (triple i 0 h (omega arith))
+  value-byte : (i : ℕ) → i < S .n → value-at (outcome-bytes S v g f c) i ≡ (if S .bad i then 255 else v i)
+  unfolding pick
+  value-byte i h = let e : outcome-size * i ≡ outcome-size * i + 0 = omega arith in rw e (byte-of i 0 h (omega arith))
 
-  pub good-value : (i : ℕ) → Good (S .n) (S .bad) i → value-at (outcome-bytes S v g f) i ≡ v i
+  pub good-value : (i : ℕ) → Good (S .n) (S .bad) i → value-at (outcome-bytes S v g f c) i ≡ v i
   good-value i h = value-byte i (h .0) ∙ if-false _ _ (h .1)
 
-  pub good-grade : (i : ℕ) → Good (S .n) (S .bad) i → grade-at (outcome-bytes S v g f) i ≡ g i
-  good-grade i h = triple i 1 (h .0) (omega arith) ∙ if-false _ _ (h .1)
+  pub good-grade : (i : ℕ) → Good (S .n) (S .bad) i → grade-at (outcome-bytes S v g f c) i ≡ g i
+  unfolding pick
+  good-grade i h = byte-of i 1 (h .0) (omega arith) ∙ if-false _ _ (h .1)
 
-  pub good-flag : (i : ℕ) → Good (S .n) (S .bad) i → flag-at (outcome-bytes S v g f) i ≡ f i
-  good-flag i h = triple i 2 (h .0) (omega arith) ∙ if-false _ _ (h .1)
+  pub good-flag : (i : ℕ) → Good (S .n) (S .bad) i → flag-at (outcome-bytes S v g f c) i ≡ f i
+  unfolding pick
+  good-flag i h = byte-of i 2 (h .0) (omega arith) ∙ if-false _ _ (h .1)
 
-  outcome-ranges : ((i : ℕ) → v i ≤ 1) → ((i : ℕ) → g i ≤ 2) → ((i : ℕ) → f i ≡ flag-of (g i))
-      → OutcomeBytes (S .n) (S .bad) (outcome-bytes S v g f)
-  outcome-ranges hv hg hf = record {
-    size = outcome-size;
+  pub good-count : (i : ℕ) → Good (S .n) (S .bad) i → garbled-at (outcome-bytes S v g f c) i ≡ c i
+  unfolding pick
+  good-count i h = byte-of i 3 (h .0) (omega arith) ∙ if-false _ _ (h .1)
+
+  outcome-ranges : (most : ℕ) → ((i : ℕ) → v i ≤ 1) → ((i : ℕ) → g i ≤ 2) → ((i : ℕ) → f i ≡ flag-of (g i)) → ((i : ℕ) → c i ≤ most)
+      → OutcomeBytes (S .n) most (S .bad) (outcome-bytes S v g f c)
+  outcome-ranges most hv hg hf hc = record {
+    size = outcome-length;
     good = λ i h. (rw (good-value i h) (hv i), rw (good-grade i h) (hg i), rw (good-flag i h, good-grade i h) (hf i));
+    good-count = λ i h. rw (good-count i h) (hc i);
     marked-value = λ i h b. value-byte i h ∙ if-true _ _ b;
-    marked-grade = λ i h b. triple i 1 h (omega arith) ∙ if-true _ _ b;
-    marked-flag = λ i h b. triple i 2 h (omega arith) ∙ if-true _ _ b;
+    marked-grade = λ i h b. byte-of i 1 h (omega arith) ∙ if-true _ _ b;
+    marked-flag = λ i h b. byte-of i 2 h (omega arith) ∙ if-true _ _ b;
+    marked-count = λ i h b. byte-of i 3 h (omega arith) ∙ if-true _ _ b;
   }
 
 -- outcomes that agree at the good stations are the same bytes
-pub outcomes-same : (S S′ : Setting) (v g f v′ g′ f′ : ℕ → ℕ) → S′ .n ≡ S .n → ((i : ℕ) → S′ .bad i ≡ S .bad i)
-    → ((i : ℕ) → Good (S .n) (S .bad) i → (v i ≡ v′ i) × (g i ≡ g′ i) × (f i ≡ f′ i))
-    → outcome-bytes S v g f ≡ outcome-bytes S′ v′ g′ f′
+pub outcomes-same : (S S′ : Setting) (v g f c v′ g′ f′ c′ : ℕ → ℕ) → S′ .n ≡ S .n → ((i : ℕ) → S′ .bad i ≡ S .bad i)
+    → ((i : ℕ) → Good (S .n) (S .bad) i → (v i ≡ v′ i) × (g i ≡ g′ i) × (f i ≡ f′ i) × (c i ≡ c′ i))
+    → outcome-bytes S v g f c ≡ outcome-bytes S′ v′ g′ f′ c′
 unfolding outcome-bytes outcome-byte
-outcomes-same S S′ v g f v′ g′ f′ en eb h =
+outcomes-same S S′ v g f c v′ g′ f′ c′ en eb h =
     rw en
     (tabulate-same (outcomes-length (S .n)) _ _
-    (λ k l. rw (eb (k / 3)) (go (k / 3) (k % 3) (S .bad (k / 3)) refl (omega arith))))
+    (λ k l. rw (eb (k / outcome-size)) (go (k / outcome-size) (k % outcome-size) (S .bad (k / outcome-size)) refl (omega arith))))
   where
     go : (i d : ℕ) (b : Bool) → S .bad i ≡ b → i < S .n
-        → (if b then 255 else (if eqb d 0 then v i else (if eqb d 1 then g i else f i)))
-        ≡ (if b then 255 else (if eqb d 0 then v′ i else (if eqb d 1 then g′ i else f′ i)))
+        → (if b then 255 else pick (v i) (g i) (f i) (c i) d) ≡ (if b then 255 else pick (v′ i) (g′ i) (f′ i) (c′ i) d)
     go i d true e l = refl
-    go i d false e l = let (a, b, c) = h i (l, e) in rw (a, b, c)
+    go i d false e l = let (p, q, r, s) = h i (l, e) in rw (p, q, r, s)
 
 -- ---- the guarantees hold of whatever agrees at the good stations
 
@@ -169,27 +178,38 @@ unfolding exchange-outcomes setting
 graded-consensus-alone n t T marks inputs table fits bits =
     let S = setting n t T marks table in
     same-consensus n t T (marked marks) (at inputs) _ _ _ _
-    (good-value S (y S 1 (at inputs)) (grade S 1 (at inputs)) _)
-    (good-grade S (y S 1 (at inputs)) (grade S 1 (at inputs)) _)
+    (good-value S (y S 1 (at inputs)) (grade S 1 (at inputs)) _ _)
+    (good-grade S (y S 1 (at inputs)) (grade S 1 (at inputs)) _ _)
     (graded-consensus S fits 1 (at inputs) bits)
 
 pub two-threshold-bytes : Demand-3
 unfolding outcomes setting
 two-threshold-bytes R fits bit =
     same-two-threshold (R .n) (R .t) (R .T) (marked (R .marks)) (from-0 (R .sender)) (R .value) _ _ _ _
-    (good-value (setting-of R) _ _ _) (good-flag (setting-of R) _ _ _)
+    (good-value (setting-of R) _ _ _ _) (good-flag (setting-of R) _ _ _ _)
     (two-threshold (setting-of R) fits (from-0 (R .sender)) (R .value) bit)
+
+-- of two rounds at most two are counted
+garbled-alone-le : (S : Setting) (x : ℕ → ℕ) (j : ℕ) → garbled-alone S x j ≤ 2
+unfolding garbled-alone
+garbled-alone-le S x j = go (garbled-second S x j) (garbled-first S x j)
+  where
+    go : (a b : Bool) → (if a then 1 else 0) + (if b then 1 else 0) ≤ 2
+    go true true = omega arith
+    go true false = omega arith
+    go false true = omega arith
+    go false false = omega arith
 
 pub exchange-ranges : Exchange-bytes
 unfolding exchange-outcomes setting grade
 exchange-ranges n t T marks inputs table =
     let S = setting n t T marks table in
-    outcome-ranges S _ _ _ (λ i. y-is-bit S 1 (at inputs) i) (λ i. grade-bound n t T _) (λ i. refl)
+    outcome-ranges S _ _ _ _ 2 (λ i. y-is-bit S 1 (at inputs) i) (λ i. grade-bound n t T _) (λ i. refl) (garbled-alone-le S (at inputs))
 
 pub outcome-ranges-of : Outcome-bytes
-unfolding outcomes setting phases value-of final-grade final-flag y-after grade-after grade
+unfolding outcomes setting phases value-of final-grade final-flag garbled-rounds y-after grade-after grade
 outcome-ranges-of R =
     let S = setting-of R in
     let p = R .t + 1 in
     let x = x-after S (from-0 (R .sender)) (R .value) p in
-    outcome-ranges S _ _ _ (λ i. y-is-bit S (first-round p) x i) (λ i. grade-bound (R .n) (R .t) (R .T) _) (λ i. refl)
+    outcome-ranges S _ _ _ _ (rounds (R .t)) (λ i. y-is-bit S (first-round p) x i) (λ i. grade-bound (R .n) (R .t) (R .T) _) (λ i. refl) (λ i. count-le (rounds (R .t)) _)

@@ -9,14 +9,16 @@ use borrow.Author.Tests.{eq-eqb, eqb-true}
 use Rattle.line.specs.Count.{if_then_else_}
 use Rattle.line.specs.Line.{Fits, from-0, rounds, place}
 use Rattle.line.specs.Marks.{marked}
-use Rattle.line.specs.Ballot.{read-sender}
+use Rattle.line.specs.Ballot.{sender-value}
+use Rattle.line.proofs.CountLaws.{count-same}
 use Rattle.broadcast.specs.Exchange.{Setting, sends, grade-of, seconds, first-row, z, second-row, y, grade, flag-of}
-use Rattle.broadcast.specs.Broadcast.{phases, first-round, x-after, z-after, y-after, grade-after, value-of, final-grade, final-flag, part, speaks, spoken, said, sent}
+use Rattle.broadcast.specs.Broadcast.{phases, first-round, x-after, z-after, y-after, grade-after, value-of, final-grade, final-flag, first-of, second-of, part, speaks, spoken, said, sent}
+use Rattle.broadcast.specs.Garbled.{received, garbled-in, garbled-rounds, garbled-first, garbled-second, garbled-alone}
 use Rattle.broadcast.specs.Station.{at}
 use Rattle.broadcast.specs.Bytes.{setting, exchange-outcomes, Run, setting-of, log, outcomes}
 use Rattle.broadcast.specs.Guarantees.{Good}
 use Rattle.broadcast.specs.Theorems.{Exchange-effect, with-table, SameToGood, SameWhereSpoken, SameEffect}
-use Rattle.broadcast.proofs.RowLaws.{seconds-same, z-same, y-same}
+use Rattle.broadcast.proofs.RowLaws.{seconds-same, z-same, y-same, some-same}
 use Rattle.broadcast.proofs.PartLaws.{part-sender, part-first, part-second, part-king, first-is, by-parts}
 use Rattle.broadcast.proofs.ExchangeLaws.{good-sends}
 use Rattle.broadcast.proofs.BytesLaws.{sender-inside, kings-inside, log-at, outcomes-same}
@@ -48,13 +50,13 @@ module _ (S : Setting) (table : ℕ → ℕ → ℕ → ℕ) where
   -- ---- one exchange
 
   module _ (r : ℕ) (x x′ : ℕ → ℕ) (one : (i : ℕ) → i < S .n → Same r i) (two : (i : ℕ) → i < S .n → Same (r + 1) i) (same : SameGood S x x′) where
+    first-same : (j : ℕ) → Good (S .n) (S .bad) j → (i : ℕ) → i < S .n → first-row S r x j i ≡ first-row S′ r x′ j i
+    unfolding first-row
+    first-same j g i l = sends-same r i j (x i) (x′ i) g (one i l) (λ q. same i (l, q))
+
     same-z : SameGood S (z S r x) (z S′ r x′)
-    unfolding z first-row S′
-    same-z j g =
-        rw (← same j g)
-        (z-same (S .n) (first-row S r x j) (first-row S′ r x′ j)
-        (λ i l. sends-same r i j (x i) (x′ i) g (one i l) (λ q. same i (l, q)))
-        (S .T) (x j))
+    unfolding z S′
+    same-z j g = rw (← same j g) (z-same (S .n) (first-row S r x j) (first-row S′ r x′ j) (first-same j g) (S .T) (x j))
 
     row-same : (j : ℕ) → Good (S .n) (S .bad) j → (i : ℕ) → i < S .n → second-row S r x j i ≡ second-row S′ r x′ j i
     unfolding second-row
@@ -97,7 +99,7 @@ module _ (S : Setting) (table : ℕ → ℕ → ℕ → ℕ) where
     same-x : (p : ℕ) → p ≤ S .t + 1 → SameGood S (X p) (X′ p)
     unfolding X X′ x-after speaks
     same-x zero h j g =
-        ap read-sender
+        ap sender-value
         (sends-same 1 sender-from-0 j value value g
         (tables 1 sender-from-0 (omega arith) (omega arith) in-line (rw part-sender (eq-eqb sender-from-0 sender-from-0 refl)))
         (λ _. refl))
@@ -134,6 +136,23 @@ module _ (S : Setting) (table : ℕ → ℕ → ℕ → ℕ) where
         (λ p h i g. rw (part-second p) (same-z-after p (omega (arith, first-is p)) i g))
         (λ p h i g. rw (part-king p, same-y-after p (omega (arith, first-is p)) i g))
 
+    -- and counts the same
+    same-garbled : SameGood S (garbled-rounds S sender-from-0 value) (garbled-rounds S′ sender-from-0 value)
+    unfolding garbled-rounds garbled-in received sent S′
+    same-garbled j g =
+        count-same (rounds (S .t)) _ _ (λ m l.
+        some-same (S .n) sender-from-0 (part (suc m)) _ _ (λ i h speaks-i.
+        sends-same (suc m) i j _ _ g (tables (suc m) i (omega arith) l h speaks-i) (λ q. said-same (suc m) (omega arith) l i (h, q))))
+
+-- the exchange had alone counts the same
+same-alone : (S : Setting) (table : ℕ → ℕ → ℕ → ℕ) (x x′ : ℕ → ℕ) → ((i : ℕ) → i < S .n → Same S table 1 i) → ((i : ℕ) → i < S .n → Same S table (1 + 1) i)
+    → SameGood S x x′ → SameGood S (garbled-alone S x) (garbled-alone (retabled S table) x′)
+unfolding garbled-alone garbled-first garbled-second S′
+same-alone S table x x′ one two same j g =
+    let a = some-same (S .n) 0 (first-of 0) _ _ (λ i l _. first-same S table 1 x x′ one two same j g i l) in
+    let b = some-same (S .n) 0 (second-of 0) _ _ (λ i l _. row-same S table 1 x x′ one two same j g i l) in
+    rw (a, b)
+
 -- ---- of the bytes
 
 pub same-exchange : Exchange-effect
@@ -147,7 +166,7 @@ same-exchange n t T marks inputs inputs′ table table′ same agree =
     let two : (i : ℕ) → i < n → Same S tab (1 + 1) i = λ i l b j g. agree 2 i j (omega arith) (omega arith) l b g in
     let sy = same-y S tab 1 x x′ one two same in
     let sg = same-grade S tab 1 x x′ one two same in
-    outcomes-same S (retabled S tab) _ _ _ _ _ _ refl (λ i. refl) (λ i g. (sy i g, sg i g, ap flag-of (sg i g)))
+    outcomes-same S (retabled S tab) _ _ _ _ _ _ _ _ refl (λ i. refl) (λ i g. (sy i g, sg i g, ap flag-of (sg i g), same-alone S tab x x′ one two same i g))
 
 module _ (R : Run) (table : List ℕ) (fits : Fits (R .n) (R .t) (R .T)) (low : 1 ≤ R .sender) (high : R .sender ≤ R .n)
     (agree : (i : ℕ) → i < R .n → marked (R .marks) i ≡ true → SameWhereSpoken R table i) where
@@ -206,7 +225,8 @@ module _ (R : Run) (table : List ℕ) (fits : Fits (R .n) (R .t) (R .T)) (low : 
       let p = R .t + 1 in
       let sy = same-y-after S tab (from-0 (R .sender)) (R .value) in-line few tables p (omega arith) in
       let sg = same-grade-after S tab (from-0 (R .sender)) (R .value) in-line few tables p (omega arith) in
-      outcomes-same S (setting-of R′) _ _ _ _ _ _ refl (λ i. refl) (λ i g. (sy i g, sg i g, ap flag-of (sg i g)))
+      let sc = same-garbled S tab (from-0 (R .sender)) (R .value) in-line few tables in
+      outcomes-same S (setting-of R′) _ _ _ _ _ _ _ _ refl (λ i. refl) (λ i g. (sy i g, sg i g, ap flag-of (sg i g), sc i g))
 
   pub same-effect : SameEffect R (with-table R table)
   unfolding R′

@@ -1,19 +1,21 @@
 -- The parts of a broadcast, and what a station does in them, by the tests that code makes of a round. Assumes nothing.
 use Prim.Native.Nat.{ℕ, zero, suc, _+_, _-_, _/_, _%_, _≤_}
-use mathlib.Core.Path.{_≡_, refl, sym, ap, _∙_}
+use mathlib.Core.Path.{_≡_, refl, sym, ap, subst, _∙_}
 use mathlib.Core.Logic.{_≢_}
 use mathlib.Core.List.{List}
 use native.Mathlib.Omega.{arith}
 use lib.Dec.{eqb}
 use borrow.Author.Tests.{eq-eqb, ne-eqb}
-use Rattle.line.specs.Count.{if_then_else_}
+use Rattle.line.specs.Count.{if_then_else_, count}
+use Rattle.line.proofs.CountLaws.{count-le}
 use Rattle.line.specs.Line.{rounds}
 use Rattle.line.specs.Ballot.{silence}
 use Rattle.broadcast.specs.Exchange.{Row, flag-of}
 use Rattle.broadcast.specs.Broadcast.{Part, from-sender, first-of, second-of, from-king, part, speaks}
-use Rattle.broadcast.specs.Station.{Setup, State, running, done, opened, held, told, ballot, next, taken, advance, result, at, after}
-use Rattle.broadcast.specs.Theorems.{DoneAfter, ValueWithoutEffect}
-use Rattle.line.proofs.BallotLaws.{read-sender-bit}
+use Rattle.broadcast.specs.Garbled.{some-garbled}
+use Rattle.broadcast.specs.Station.{Setup, State, running, done, opened, held, told, ballot, next, moved, counted, taken, advance, result, at, after}
+use Rattle.broadcast.specs.Theorems.{DoneAfter, ValueWithoutEffect, SameButCount, CountWithoutEffect}
+use Rattle.line.proofs.BallotLaws.{sender-value-bit}
 use Rattle.broadcast.proofs.TallyLaws.{z-bound, y-bit, grade-bound, obey-bit}
 
 module _ (r : ℕ) where
@@ -62,34 +64,51 @@ pub record InRange (s : State) : Type 0 where
   pub z-high : s .z ≤ 2
   pub grade-high : s .grade ≤ 2
 
-taken-range : (c : Setup) (s : State) (row : Row) → InRange s → (q : Part) → InRange (taken c s row q)
-unfolding taken next
-taken-range c s row h from-sender =
-    record { value-bit = read-sender-bit (row (c .sender-from-0)); z-high = h .z-high; grade-high = h .grade-high }
-taken-range c s row h (first-of p) =
+moved-range : (c : Setup) (s : State) (row : Row) (g : ℕ) → InRange s → (q : Part) → InRange (moved c s row g q)
+unfolding moved next
+moved-range c s row g h from-sender =
+    record { value-bit = sender-value-bit (row (c .sender-from-0)); z-high = h .z-high; grade-high = h .grade-high }
+moved-range c s row g h (first-of p) =
     record { value-bit = h .value-bit; z-high = z-bound (c .n) (c .T) (s .value) row (h .value-bit); grade-high = h .grade-high }
-taken-range c s row h (second-of p) =
+moved-range c s row g h (second-of p) =
     record { value-bit = y-bit (c .n) row; z-high = h .z-high; grade-high = grade-bound (c .n) (c .t) (c .T) _ }
-taken-range c s row h (from-king p) =
+moved-range c s row g h (from-king p) =
     record { value-bit = obey-bit (s .grade) (s .value) (row p) (h .value-bit); z-high = h .z-high; grade-high = h .grade-high }
 
-taken-round : (c : Setup) (s : State) (row : Row) (q : Part) → taken c s row q .round ≡ s .round + 1
-unfolding taken next
-taken-round c s row from-sender = refl
-taken-round c s row (first-of p) = refl
-taken-round c s row (second-of p) = refl
-taken-round c s row (from-king p) = refl
+moved-round : (c : Setup) (s : State) (row : Row) (g : ℕ) (q : Part) → moved c s row g q .round ≡ s .round + 1
+unfolding moved next
+moved-round c s row g from-sender = refl
+moved-round c s row g (first-of p) = refl
+moved-round c s row g (second-of p) = refl
+moved-round c s row g (from-king p) = refl
+
+moved-count : (c : Setup) (s : State) (row : Row) (g : ℕ) (q : Part) → moved c s row g q .garbled ≡ g
+unfolding moved next
+moved-count c s row g from-sender = refl
+moved-count c s row g (first-of p) = refl
+moved-count c s row g (second-of p) = refl
+moved-count c s row g (from-king p) = refl
 
 module _ (c : Setup) (v : ℕ) (rows : ℕ → List ℕ) where
   pub after-range : v ≤ 1 → (m : ℕ) → InRange (after c v rows m)
-  unfolding after opened advance
+  unfolding after opened advance taken
   after-range h zero = record { value-bit = h; z-high = omega arith; grade-high = omega arith }
-  after-range h (suc m) = taken-range c (after c v rows m) (at (rows (suc m))) (after-range h m) _
+  after-range h (suc m) = moved-range c (after c v rows m) (at (rows (suc m))) _ (after-range h m) _
 
   pub after-round : (m : ℕ) → after c v rows m .round ≡ suc m
-  unfolding after opened advance
+  unfolding after opened advance taken
   after-round zero = refl
-  after-round (suc m) = taken-round c (after c v rows m) (at (rows (suc m))) _ ∙ omega (arith, after-round m)
+  after-round (suc m) = moved-round c (after c v rows m) (at (rows (suc m))) _ _ ∙ omega (arith, after-round m)
+
+  -- the count is that of the rows
+  pub after-count : (m : ℕ) → after c v rows m .garbled ≡ count m (λ k. some-garbled (c .n) (c .sender-from-0) (part (suc k)) (at (rows (suc k))))
+  unfolding after opened advance taken counted count
+  after-count zero = refl
+  after-count (suc m) = moved-count c (after c v rows m) (at (rows (suc m))) _ _ ∙ rw (after-round m, after-count m)
+
+  -- and so at most their number
+  pub after-count-le : (m : ℕ) → after c v rows m .garbled ≤ m
+  after-count-le m = rw (after-count m) (count-le m _)
 
 -- ---- after any rows: its result
 
@@ -98,7 +117,7 @@ module _ (c : Setup) (s : State) where
   unfolding result
   running-in r e h = rw (e, ne-eqb r (rounds (c .t) + 1) (omega arith))
 
-  pub done-in : s .round ≡ suc (rounds (c .t)) → result c s ≡ done (s .value) (s .grade) (flag-of (s .grade))
+  pub done-in : s .round ≡ suc (rounds (c .t)) → result c s ≡ done (s .value) (s .grade) (flag-of (s .grade)) (s .garbled)
   unfolding result
   done-in e = rw (e, eq-eqb (suc (rounds (c .t))) (rounds (c .t) + 1) (omega arith))
 
@@ -118,7 +137,7 @@ module _ (c : Setup) (other : c .own-from-0 ≢ c .sender-from-0) (rows : ℕ �
 
   module _ (v w : ℕ) where
     same-state : (m : ℕ) → after c v rows (suc m) ≡ after c w rows (suc m)
-    unfolding after opened advance taken next
+    unfolding after opened advance taken moved next
     same-state zero = rw (is-sender 1 refl)
     same-state (suc m) = ap (λ (s : State). advance c s (at (rows (suc (suc m))))) (same-state m)
 
@@ -136,4 +155,25 @@ value-without-effect c h v w rows = record {
   states = same-state c h rows v w;
   ballots = same-ballot c h rows v w;
   results = same-result c h rows v w;
+}
+
+-- ---- the count has no effect on anything else
+
+same-told : (c : Setup) (s s′ : State) → SameButCount s s′ → ballot c s ≡ ballot c s′
+unfolding ballot
+same-told c s s′ h = rw (h .round-is, h .value-is, h .z-is)
+
+same-moved : (c : Setup) (s s′ : State) (row : Row) (g g′ : ℕ) → SameButCount s s′ → (q : Part) → SameButCount (moved c s row g q) (moved c s′ row g′ q)
+unfolding moved next
+same-moved c s s′ row g g′ h from-sender = record { round-is = rw (h .round-is); value-is = refl; z-is = h .z-is; grade-is = h .grade-is }
+same-moved c s s′ row g g′ h (first-of p) = record { round-is = rw (h .round-is); value-is = h .value-is; z-is = rw (h .value-is); grade-is = h .grade-is }
+same-moved c s s′ row g g′ h (second-of p) = record { round-is = rw (h .round-is); value-is = refl; z-is = h .z-is; grade-is = refl }
+same-moved c s s′ row g g′ h (from-king p) =
+    record { round-is = rw (h .round-is); value-is = rw (h .grade-is, h .value-is); z-is = h .z-is; grade-is = h .grade-is }
+
+pub count-without-effect : (c : Setup) (s s′ : State) (row : ℕ → ℕ) → SameButCount s s′ → CountWithoutEffect c s s′ row
+unfolding advance taken
+count-without-effect c s s′ row h = record {
+  ballots = same-told c s s′ h;
+  states = subst (λ (q : Part). SameButCount (advance c s row) (moved c s′ row (counted c (s′ .garbled) row q) q)) (ap part (h .round-is)) (same-moved c s s′ row _ _ h (part (s .round)));
 }

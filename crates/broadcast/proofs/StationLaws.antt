@@ -9,10 +9,10 @@ use lib.Dec.{eqb}
 use borrow.Author.Tests.{eqb-true}
 use Rattle.line.specs.Count.{if_then_else_}
 use Rattle.line.specs.Line.{rounds}
-use Rattle.line.specs.Ballot.{silence, read-sender}
+use Rattle.line.specs.Ballot.{silence, sender-value}
 use Rattle.broadcast.specs.Exchange.{Setting, Row, sends, grade-of, first-row, z, second-row, y, grade}
 use Rattle.broadcast.specs.Broadcast.{phases, first-round, x-after, z-after, y-after, grade-after, value-of, final-grade, final-flag, Part, from-sender, first-of, second-of, from-king, part, speaks, spoken, said, sent}
-use Rattle.broadcast.specs.Station.{Setup, State, running, done, opened, held, told, ballot, next, taken, advance, result, at, after}
+use Rattle.broadcast.specs.Station.{Setup, State, running, done, opened, held, told, ballot, next, moved, taken, advance, result, at, after}
 use Rattle.broadcast.proofs.RowLaws.{seconds-same, z-same, y-same}
 use Rattle.broadcast.proofs.PartLaws.{part-sender, part-first, part-second, part-king, next-first, first-is, by-parts}
 use Rattle.broadcast.proofs.RoundLaws.{running-in, done-in}
@@ -42,15 +42,15 @@ module _ (S : Setting) (sender-from-0 value : ℕ) (in-line : sender-from-0 < S 
   -- ---- one row more
 
   pub step-sender : (s : State) (row : Row) → Received 1 row → Knows 1 s → Knows (1 + 1) (advance its-setup s row)
-  unfolding advance taken next Holds x-after sent first-round
+  unfolding advance taken moved next Holds x-after sent first-round
   step-sender s row h k = rw (k .in-round, part-sender) (record {
     in-round = refl;
-    holds = rw (part-first 0) (ap read-sender (h sender-from-0 in-line ∙ ap (sends S 1 sender-from-0 j) (said-sender S sender-from-0 value)));
+    holds = rw (part-first 0) (ap sender-value (h sender-from-0 in-line ∙ ap (sends S 1 sender-from-0 j) (said-sender S sender-from-0 value)));
   })
 
   pub step-first : (p : ℕ) (s : State) (row : Row) → Received (first-round p) row → Knows (first-round p) s
       → Knows (first-round p + 1) (advance its-setup s row)
-  unfolding advance taken next Holds z-after z first-row sent
+  unfolding advance taken moved next Holds z-after z first-row sent
   step-first p s row h k =
       let e : s .value ≡ x-after S sender-from-0 value p j = rw (part-first p) at (k .holds) in
       let same = z-same (S .n) row _ (λ i l. h i l ∙ ap (sends S (first-round p) i j) (said-first S sender-from-0 value p i)) in
@@ -61,7 +61,7 @@ module _ (S : Setting) (sender-from-0 value : ℕ) (in-line : sender-from-0 < S 
 
   pub step-second : (p : ℕ) (s : State) (row : Row) → Received (first-round p + 1) row → Knows (first-round p + 1) s
       → Knows (first-round p + 1 + 1) (advance its-setup s row)
-  unfolding advance taken next Holds z-after y-after grade-after y grade second-row sent
+  unfolding advance taken moved next Holds z-after y-after grade-after y grade second-row sent
   step-second p s row h k =
       let same : (i : ℕ) → i < S .n → row i ≡ second-row S (first-round p) (x-after S sender-from-0 value p) j i
       = λ i l. h i l ∙ ap (sends S (first-round p + 1) i j) (said-second S sender-from-0 value p i) in
@@ -74,7 +74,7 @@ module _ (S : Setting) (sender-from-0 value : ℕ) (in-line : sender-from-0 < S 
 
   pub step-king : (p : ℕ) (s : State) (row : Row) → first-round p + 2 ≤ rounds (S .t) → Received (first-round p + 2) row
       → Knows (first-round p + 2) s → Knows (first-round p + 2 + 1) (advance its-setup s row)
-  unfolding advance taken next Holds x-after y-after grade-after sent
+  unfolding advance taken moved next Holds x-after y-after grade-after sent
   step-king p s row l h k =
       let (e, g) : Holds (from-king p) s = rw (part-king p) at (k .holds) in
       let b = h p (omega (arith, first-is p)) ∙ ap (sends S (first-round p + 2) p j) (said-king S sender-from-0 value p) in
@@ -134,7 +134,7 @@ module _ (S : Setting) (sender-from-0 value : ℕ) (in-line : sender-from-0 < S 
   is-running r s l k = running-in its-setup s r (k .in-round) l
 
   pub is-done : (s : State) → Knows (suc (rounds (S .t))) s
-      → result its-setup s ≡ done (value-of S sender-from-0 value j) (final-grade S sender-from-0 value j) (final-flag S sender-from-0 value j)
+      → result its-setup s ≡ done (value-of S sender-from-0 value j) (final-grade S sender-from-0 value j) (final-flag S sender-from-0 value j) (s .garbled)
   unfolding Holds phases value-of final-grade final-flag
   is-done s k =
       let e : suc (rounds (S .t)) ≡ first-round (S .t + 1) + 2 = omega (arith, first-is (S .t + 1)) in

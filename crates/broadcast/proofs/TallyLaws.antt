@@ -9,9 +9,10 @@ use native.Mathlib.Nat.{eq-zero-or-pos}
 use lib.Dec.{eqb, ltb}
 use borrow.Author.Tests.{eqb-true, eqb-false, lt-ltb, le-ltb, le-leb, lt-leb, eq-eqb, ne-eqb}
 use Rattle.line.specs.Count.{if_then_else_, count}
-use Rattle.line.specs.Ballot.{blank, read-first, read-second, read-king}
+use Rattle.line.specs.Ballot.{blank, first-value, second-value, read-king, king-value}
+use Rattle.line.specs.declared.ballot.Ballot.{Ballot}
 use Rattle.line.proofs.CountLaws.{if-true, if-false, le-or-lt, count-zero, count-hit, count-miss, count-le, count-same, count-none, cover, mono, disjoint}
-use Rattle.line.proofs.BallotLaws.{read-first-bound, read-first-keeps, read-first-because, read-second-keeps, read-second-bound, read-second-because, read-king-keeps, read-king-unreadable, read-king-bit}
+use Rattle.line.proofs.BallotLaws.{first-value-bound, first-value-keeps, first-value-because, second-value-keeps, second-value-bound, second-value-because, king-value-keeps, king-value-unreadable, king-value-bit}
 use Rattle.broadcast.specs.Exchange.{Row, tally, firsts, seconds, z-from, z-of, y-from, y-of, for-y, grade-of, flag-of}
 use Rattle.broadcast.specs.Broadcast.{obey}
 
@@ -29,17 +30,17 @@ tally-bytes read n v row keeps only = count-same n _ _ (λ k _. go (row k) (eqb 
 
 pub first-bytes : (n v : ℕ) (row : Row) → v ≤ 1 → firsts n v row ≡ count n (λ i. eqb (row i) v)
 unfolding firsts
-first-bytes n v row h = tally-bytes read-first n v row (read-first-keeps v (omega arith)) (λ b. read-first-because b v h)
+first-bytes n v row h = tally-bytes first-value n v row (first-value-keeps v (omega arith)) (λ b. first-value-because b v h)
 
 pub blanks-for-neither : (n v : ℕ) (row : Row) → v ≤ 1 → seconds n v row ≡ count n (λ i. eqb (row i) v)
 unfolding seconds
-blanks-for-neither n v row h = tally-bytes read-second n v row (read-second-keeps v (omega arith)) (λ b. read-second-because b v h)
+blanks-for-neither n v row h = tally-bytes second-value n v row (second-value-keeps v (omega arith)) (λ b. second-value-because b v h)
 
 -- in the first round none is read as anything but 0, 1 and blank
 pub firsts-else : (n v : ℕ) (row : Row) → 2 < v → firsts n v row ≡ 0
 unfolding firsts tally
 firsts-else n v row h =
-    count-same n _ (λ _. false) (λ k _. ne-eqb (read-first (row k)) v (λ e. omega (arith, read-first-bound (row k)))) ∙ count-none n
+    count-same n _ (λ _. false) (λ k _. ne-eqb (first-value (row k)) v (λ e. omega (arith, first-value-bound (row k)))) ∙ count-none n
 
 -- what is 0, 1 or 2 everywhere: the three counts make n
 three : (f : ℕ → ℕ) → ((k : ℕ) → f k ≤ 2) → (n : ℕ)
@@ -60,11 +61,11 @@ three f h (suc n) = go (f n) (h n) (three f h n)
 
 pub firsts-make-n : (n : ℕ) (row : Row) → firsts n 0 row + firsts n 1 row + firsts n blank row ≡ n
 unfolding firsts tally
-firsts-make-n n row = three (λ k. read-first (row k)) (λ k. read-first-bound (row k)) n
+firsts-make-n n row = three (λ k. first-value (row k)) (λ k. first-value-bound (row k)) n
 
 pub seconds-make-n : (n : ℕ) (row : Row) → seconds n 0 row + seconds n 1 row + seconds n blank row ≡ n
 unfolding seconds tally
-seconds-make-n n row = three (λ k. read-second (row k)) (λ k. read-second-bound (row k)) n
+seconds-make-n n row = three (λ k. second-value (row k)) (λ k. second-value-bound (row k)) n
 
 -- ---- tallies
 
@@ -89,26 +90,26 @@ module _ (read : ℕ → ℕ) (n : ℕ) (row : Row) where
 module _ (n : ℕ) (row : Row) where
   pub firsts-low : (v : ℕ) → v ≤ 1 → (p : ℕ → Bool) → ((k : ℕ) → k < n → p k ≡ true → row k ≡ v) → count n p ≤ firsts n v row
   unfolding firsts
-  firsts-low v h = tally-low read-first n row v (read-first-keeps v (omega arith))
+  firsts-low v h = tally-low first-value n row v (first-value-keeps v (omega arith))
 
   pub firsts-apart : (v w : ℕ) → v + w ≡ 1 → firsts n v row + firsts n w row ≤ n
   unfolding firsts
-  firsts-apart = tally-apart read-first n row
+  firsts-apart = tally-apart first-value n row
 
   pub seconds-low : (v : ℕ) → v ≤ 1 → (p : ℕ → Bool) → ((k : ℕ) → k < n → p k ≡ true → row k ≡ v) → count n p ≤ seconds n v row
   unfolding seconds
-  seconds-low v h = tally-low read-second n row v (read-second-keeps v (omega arith))
+  seconds-low v h = tally-low second-value n row v (second-value-keeps v (omega arith))
 
   pub seconds-apart : (v w : ℕ) → v + w ≡ 1 → seconds n v row + seconds n w row ≤ n
   unfolding seconds
-  seconds-apart = tally-apart read-second n row
+  seconds-apart = tally-apart second-value n row
 
   -- where the good send 0, 1 or blank
   pub seconds-high : (v : ℕ) (bad p : ℕ → Bool) → ((k : ℕ) → k < n → bad k ≡ false → (row k ≤ 2) × (row k ≡ v → p k ≡ true))
       → seconds n v row ≤ count n p + count n bad
   unfolding seconds
   seconds-high v bad p h =
-      tally-high read-second n row v bad p (λ k l b e. h k l b .1 (sym (read-second-keeps (row k) (h k l b .0)) ∙ e))
+      tally-high second-value n row v bad p (λ k l b e. h k l b .1 (sym (second-value-keeps (row k) (h k l b .0)) ∙ e))
 
 -- ---- one ballot more, as a loop counts
 
@@ -132,35 +133,35 @@ module _ (read : ℕ → ℕ) (v : ℕ) (row : Row) where
 module _ (v : ℕ) (row : Row) where
   pub firsts-none : firsts 0 v row ≡ 0
   unfolding firsts
-  firsts-none = tally-none read-first v row
+  firsts-none = tally-none first-value v row
 
-  pub firsts-hit : (i : ℕ) → read-first (row i) ≡ v → firsts (i + 1) v row ≡ firsts i v row + 1
+  pub firsts-hit : (i : ℕ) → first-value (row i) ≡ v → firsts (i + 1) v row ≡ firsts i v row + 1
   unfolding firsts
-  firsts-hit = tally-hit read-first v row
+  firsts-hit = tally-hit first-value v row
 
-  pub firsts-miss : (i : ℕ) → read-first (row i) ≢ v → firsts (i + 1) v row ≡ firsts i v row
+  pub firsts-miss : (i : ℕ) → first-value (row i) ≢ v → firsts (i + 1) v row ≡ firsts i v row
   unfolding firsts
-  firsts-miss = tally-miss read-first v row
+  firsts-miss = tally-miss first-value v row
 
   pub firsts-le : (n : ℕ) → firsts n v row ≤ n
   unfolding firsts
-  firsts-le = tally-le read-first v row
+  firsts-le = tally-le first-value v row
 
   pub seconds-none : seconds 0 v row ≡ 0
   unfolding seconds
-  seconds-none = tally-none read-second v row
+  seconds-none = tally-none second-value v row
 
-  pub seconds-hit : (i : ℕ) → read-second (row i) ≡ v → seconds (i + 1) v row ≡ seconds i v row + 1
+  pub seconds-hit : (i : ℕ) → second-value (row i) ≡ v → seconds (i + 1) v row ≡ seconds i v row + 1
   unfolding seconds
-  seconds-hit = tally-hit read-second v row
+  seconds-hit = tally-hit second-value v row
 
-  pub seconds-miss : (i : ℕ) → read-second (row i) ≢ v → seconds (i + 1) v row ≡ seconds i v row
+  pub seconds-miss : (i : ℕ) → second-value (row i) ≢ v → seconds (i + 1) v row ≡ seconds i v row
   unfolding seconds
-  seconds-miss = tally-miss read-second v row
+  seconds-miss = tally-miss second-value v row
 
   pub seconds-le : (n : ℕ) → seconds n v row ≤ n
   unfolding seconds
-  seconds-le = tally-le read-second v row
+  seconds-le = tally-le second-value v row
 
 -- ---- each step in plain facts, as document 01 has it
 
@@ -232,7 +233,7 @@ flag-bit g = go (ltb g 2)
     go false = omega arith
 
 -- the king's word
-pub obey-means : (g y b : ℕ) → (g ≡ 0 → obey g y b ≡ read-king y b) × (1 ≤ g → obey g y b ≡ y)
+pub obey-means : (g y : ℕ) (b : Ballot) → (g ≡ 0 → obey g y b ≡ king-value y b) × (1 ≤ g → obey g y b ≡ y)
 unfolding obey
 obey-means g y b = (λ h. if-true _ _ (eq-eqb g 0 h), λ h. if-false _ _ (ne-eqb g 0 (omega arith)))
 
@@ -300,15 +301,15 @@ module _ (n t T c : ℕ) where
 
 -- ---- the king is obeyed at grade 0 only
 
-pub obey-bit : (g y b : ℕ) → y ≤ 1 → obey g y b ≤ 1
+pub obey-bit : (g y b : ℕ) → y ≤ 1 → obey g y (read-king b) ≤ 1
 obey-bit g y b h = go (eq-zero-or-pos g)
   where
-    go : (g ≡ 0) ⊎ (0 < g) → obey g y b ≤ 1
-    go (inl e) = rw (obey-means g y b .0 e) (read-king-bit y b h)
-    go (inr e) = rw (obey-means g y b .1 e) h
+    go : (g ≡ 0) ⊎ (0 < g) → obey g y (read-king b) ≤ 1
+    go (inl e) = rw (obey-means g y (read-king b) .0 e) (king-value-bit y b h)
+    go (inr e) = rw (obey-means g y (read-king b) .1 e) h
 
-pub obey-king : (y b : ℕ) → b ≤ 1 → obey 0 y b ≡ b
-obey-king y b h = obey-means 0 y b .0 refl ∙ read-king-keeps y b h
+pub obey-king : (y b : ℕ) → b ≤ 1 → obey 0 y (read-king b) ≡ b
+obey-king y b h = obey-means 0 y (read-king b) .0 refl ∙ king-value-keeps y b h
 
-pub obey-unreadable : (y b : ℕ) → 1 < b → obey 0 y b ≡ y
-obey-unreadable y b h = obey-means 0 y b .0 refl ∙ read-king-unreadable y b h
+pub obey-unreadable : (y b : ℕ) → 1 < b → obey 0 y (read-king b) ≡ y
+obey-unreadable y b h = obey-means 0 y (read-king b) .0 refl ∙ king-value-unreadable y b h

@@ -3,15 +3,16 @@ use Prim.Native.Nat.{ℕ, zero, suc, _+_, _-_, _*_, _/_, _%_}
 use mathlib.Core.Bool.{Bool, true}
 use lib.Dec.{eqb}
 use Rattle.line.specs.Count.{if_then_else_}
-use Rattle.line.specs.Ballot.{silence, read-sender, read-king}
+use Rattle.line.specs.Ballot.{silence, sender-value, read-king, king-value}
+use Rattle.line.specs.declared.ballot.Ballot.{Ballot}
 use Rattle.broadcast.specs.Exchange.{Setting, sends, z, y, grade, flag-of}
 
 -- ---- the phases
 
--- "With grade 0 a station's new x is the king's ballot [..]; with grade 1 or 2 it is the station's own y.": b is the king's byte, and y stands in for one
--- that can't be read
-unfoldable pub obey : ℕ → ℕ → ℕ → ℕ
-obey g y b = if eqb g 0 then read-king y b else y
+-- "With grade 0 a station's new x is the king's ballot [..]; with grade 1 or 2 it is the station's own y.": y stands in for one that can't be
+-- read
+unfoldable pub obey : ℕ → ℕ → Ballot → ℕ
+obey g y heard = if eqb g 0 then king-value y heard else y
 
 -- "Phase p, from 1 to t+1": how many there are
 unfoldable pub phases : ℕ → ℕ
@@ -27,11 +28,11 @@ module _ (S : Setting) (sender-from-0 value : ℕ) where
   -- each station's x after round 1 and p phases. Round 1: "Every station takes what it reads as x". Then "round 3p+1, in which king p sends
   -- its y": the king of phase p + 1, the document's station p + 1, is station p here
   unfoldable pub x-after : ℕ → ℕ → ℕ
-  x-after zero j = read-sender (sends S 1 sender-from-0 j value)
+  x-after zero j = sender-value (sends S 1 sender-from-0 j value)
   x-after (suc p) j =
       let r = first-round p in
       let x = x-after p in
-      obey (grade S r x j) (y S r x j) (sends S (r + 2) p j (y S r x p))
+      obey (grade S r x j) (y S r x j) (read-king (sends S (r + 2) p j (y S r x p)))
 
   -- what the exchange that p phases precede gives each station
   unfoldable pub z-after : ℕ → ℕ → ℕ

@@ -1,12 +1,13 @@
--- Tables, logs and outcomes as lists of bytes (document 01, "Names", "The graded exchange" and "The broadcast").
+-- Tables, logs and outcomes as lists of bytes (document 01, "Names", "The graded exchange" and "The broadcast"; document 02, request 4).
 use Prim.Native.Nat.{ℕ, zero, suc, _+_, _-_, _/_, _%_}
 use mathlib.Core.List.{List, [], _∷_}
 use lib.Dec.{eqb}
 use Rattle.line.specs.Count.{if_then_else_}
-use Rattle.line.specs.Line.{from-0, table-length, outcomes-length, place}
+use Rattle.line.specs.Line.{from-0, table-length, outcome-size, outcomes-length, place}
 use Rattle.line.specs.Marks.{marked}
 use Rattle.broadcast.specs.Exchange.{Setting, y, grade, flag-of}
 use Rattle.broadcast.specs.Broadcast.{value-of, final-grade, final-flag, sent}
+use Rattle.broadcast.specs.Garbled.{garbled-rounds, garbled-alone}
 use Rattle.broadcast.specs.Station.{Setup, at}
 
 -- the list of f 0, f 1, .. f (m - 1)
@@ -19,14 +20,17 @@ unfoldable pub setting : ℕ → ℕ → ℕ → ℕ → List ℕ → Setting
 setting n t T marks table =
     record { n = n; t = t; T = T; bad = marked marks; table = λ r i j. at table (place n r i j) }
 
--- "An outcome is three bytes a station: value, grade 0 to 2, flag 0 or 1. A bad station's three bytes are 255."
-unfoldable pub outcome-byte : Setting → (ℕ → ℕ) → (ℕ → ℕ) → (ℕ → ℕ) → ℕ → ℕ
-outcome-byte S value grade flag k =
-    let i = k / 3 in
-    if S .bad i then 255 else (if eqb (k % 3) 0 then value i else (if eqb (k % 3) 1 then grade i else flag i))
+-- "value, grade 0 to 2, flag 0 or 1", and the count (request 4: "The outcome becomes four bytes a station"): byte d of a good station's
+unfoldable pub pick : ℕ → ℕ → ℕ → ℕ → ℕ → ℕ
+pick value grade flag garbled d = if eqb d 0 then value else (if eqb d 1 then grade else (if eqb d 2 then flag else garbled))
 
-unfoldable pub outcome-bytes : Setting → (ℕ → ℕ) → (ℕ → ℕ) → (ℕ → ℕ) → List ℕ
-outcome-bytes S value grade flag = tabulate (outcomes-length (S .n)) (outcome-byte S value grade flag)
+-- "255 at a bad one"
+unfoldable pub outcome-byte : Setting → (ℕ → ℕ) → (ℕ → ℕ) → (ℕ → ℕ) → (ℕ → ℕ) → ℕ → ℕ
+outcome-byte S value grade flag garbled k =
+    let i = k / outcome-size in if S .bad i then 255 else pick (value i) (grade i) (flag i) (garbled i) (k % outcome-size)
+
+unfoldable pub outcome-bytes : Setting → (ℕ → ℕ) → (ℕ → ℕ) → (ℕ → ℕ) → (ℕ → ℕ) → List ℕ
+outcome-bytes S value grade flag garbled = tabulate (outcomes-length (S .n)) (outcome-byte S value grade flag garbled)
 
 -- ---- the graded exchange had alone
 
@@ -36,7 +40,7 @@ unfoldable pub exchange-outcomes : ℕ → ℕ → ℕ → ℕ → List ℕ → 
 exchange-outcomes n t T marks inputs table =
     let S = setting n t T marks table in
     let x = at inputs in
-    outcome-bytes S (y S 1 x) (grade S 1 x) (λ i. flag-of (grade S 1 x i))
+    outcome-bytes S (y S 1 x) (grade S 1 x) (λ i. flag-of (grade S 1 x i)) (garbled-alone S x)
 
 -- ---- the rehearsal of a broadcast
 
@@ -63,7 +67,9 @@ log R = tabulate (table-length (R .n) (R .t)) (log-byte R)
 unfoldable pub outcomes : Run → List ℕ
 outcomes R =
     let S = setting-of R in
-    outcome-bytes S (value-of S (from-0 (R .sender)) (R .value)) (final-grade S (from-0 (R .sender)) (R .value)) (final-flag S (from-0 (R .sender)) (R .value))
+    let i = from-0 (R .sender) in
+    let v = R .value in
+    outcome-bytes S (value-of S i v) (final-grade S i v) (final-flag S i v) (garbled-rounds S i v)
 
 -- ---- the single station in a run
 

@@ -3,7 +3,7 @@ use Prim.Native.Nat.{ℕ, _+_, _-_}
 use mathlib.Core.Bool.{Bool}
 use lib.Dec.{leb, ltb, eqb}
 use Rattle.line.specs.Count.{if_then_else_, count}
-use Rattle.line.specs.Ballot.{blank, read-first, read-second}
+use Rattle.line.specs.Ballot.{blank, first-value, second-value}
 
 -- ---- at one station
 
@@ -17,7 +17,7 @@ tally read n v row = count n (λ i. eqb (read (row i)) v)
 
 -- step 1 (001: 2): how many ballots of the first round equal v, 0 or 1, and how many count for neither value (v = blank)
 unfoldable pub firsts : ℕ → ℕ → Row → ℕ
-firsts n v row = tally read-first n v row
+firsts n v row = tally first-value n v row
 
 -- step 2 (001: 3), of c, how many ballots equal x: "If at least n−T ballots, its own included, equal its x, then z = x, otherwise z is blank."
 unfoldable pub z-from : ℕ → ℕ → ℕ → ℕ → ℕ
@@ -28,7 +28,7 @@ z-of n T x row = z-from n T x (firsts n x row)
 
 -- steps 3 and 4 (001: 5): a, the zeros of the second round (v = 0), b, the ones (v = 1), and the blanks (v = blank)
 unfoldable pub seconds : ℕ → ℕ → Row → ℕ
-seconds n v row = tally read-second n v row
+seconds n v row = tally second-value n v row
 
 -- step 4 (001: 6, where equal counts give 0): "y = 0 if a exceeds b, otherwise y = 1."
 unfoldable pub y-from : ℕ → ℕ → ℕ

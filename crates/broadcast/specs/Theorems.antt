@@ -8,12 +8,13 @@ use mathlib.Core.List.{List}
 use lib.Dec.{eqb}
 use lib.ListN.{length}
 use Rattle.line.specs.Count.{count}
-use Rattle.line.specs.Line.{Fits, from-0, rounds, table-length, outcomes-length, place}
+use Rattle.line.specs.Line.{Fits, from-0, rounds, table-length, outcome-size, outcomes-length, place}
 use Rattle.line.specs.Marks.{marked, faults}
-use Rattle.line.specs.Ballot.{blank}
+use Rattle.line.specs.Ballot.{blank, read-king, is-garbled}
 use Rattle.broadcast.specs.Exchange.{Row, firsts, seconds, Setting, y, grade, flag-of}
-use Rattle.broadcast.specs.Broadcast.{obey, from-sender, first-of, second-of, from-king, x-after, z-after, y-after, part, sent}
-use Rattle.broadcast.specs.Station.{Setup, running, done, ballot, result, at, after}
+use Rattle.broadcast.specs.Broadcast.{obey, from-sender, first-of, second-of, from-king, x-after, z-after, y-after, part, speaks, sent}
+use Rattle.broadcast.specs.Garbled.{reading, some-garbled}
+use Rattle.broadcast.specs.Station.{Setup, State, running, done, ballot, advance, result, at, after}
 use Rattle.broadcast.specs.Bytes.{exchange-outcomes, Run, setting-of, log, outcomes, setup, column}
 use Rattle.broadcast.specs.Guarantees.{Good, GradedConsensus, TwoThreshold}
 
@@ -43,26 +44,31 @@ Definition-6 =
 
 -- the bytes of an outcome list at station i
 abbrev pub value-at : List ℕ → ℕ → ℕ
-value-at bytes i = at bytes (3 * i)
+value-at bytes i = at bytes (outcome-size * i)
 
 abbrev pub grade-at : List ℕ → ℕ → ℕ
-grade-at bytes i = at bytes (3 * i + 1)
+grade-at bytes i = at bytes (outcome-size * i + 1)
 
 abbrev pub flag-at : List ℕ → ℕ → ℕ
-flag-at bytes i = at bytes (3 * i + 2)
+flag-at bytes i = at bytes (outcome-size * i + 2)
 
--- "value, grade 0 to 2, flag 0 or 1. A bad station's three bytes are 255.", and "The flag is 1 when the grade is below 2."
-pub record OutcomeBytes (n : ℕ) (bad : ℕ → Bool) (bytes : List ℕ) : Type 0 where
+abbrev pub garbled-at : List ℕ → ℕ → ℕ
+garbled-at bytes i = at bytes (outcome-size * i + 3)
+
+-- "value, grade 0 to 2, flag 0 or 1", "255 at a bad one", and "The flag is 1 when the grade is below 2."; the count is at most the number of rounds
+pub record OutcomeBytes (n rounds : ℕ) (bad : ℕ → Bool) (bytes : List ℕ) : Type 0 where
   pub size : length bytes ≡ outcomes-length n
   pub good : (i : ℕ) → Good n bad i → (value-at bytes i ≤ 1) × (grade-at bytes i ≤ 2) × (flag-at bytes i ≡ flag-of (grade-at bytes i))
+  pub good-count : (i : ℕ) → Good n bad i → garbled-at bytes i ≤ rounds
   pub marked-value : (i : ℕ) → i < n → bad i ≡ true → value-at bytes i ≡ 255
   pub marked-grade : (i : ℕ) → i < n → bad i ≡ true → grade-at bytes i ≡ 255
   pub marked-flag : (i : ℕ) → i < n → bad i ≡ true → flag-at bytes i ≡ 255
+  pub marked-count : (i : ℕ) → i < n → bad i ≡ true → garbled-at bytes i ≡ 255
 
 -- of the outcomes of the exchange had alone
 abbrev pub Exchange-bytes : Type 0
 Exchange-bytes =
-    (n t T marks : ℕ) (inputs table : List ℕ) → OutcomeBytes n (marked marks) (exchange-outcomes n t T marks inputs table)
+    (n t T marks : ℕ) (inputs table : List ℕ) → OutcomeBytes n 2 (marked marks) (exchange-outcomes n t T marks inputs table)
 
 -- Definition 6 of the outcome bytes of the exchange had alone
 abbrev pub Definition-6-alone : Type 0
@@ -86,9 +92,9 @@ Exchange-effect =
 -- b is the king's byte: at grade 0 "a station's new x is the king's ballot", but (request 2) "a king's unreadable ballot leaves a grade 0 station with its own
 -- y"; "with grade 1 or 2 it is the station's own y"
 pub record KingsWord (g y b : ℕ) : Type 0 where
-  pub readable : b ≤ 1 → obey 0 y b ≡ b
-  pub unreadable : 1 < b → obey 0 y b ≡ y
-  pub graded : 1 ≤ g → obey g y b ≡ y
+  pub readable : b ≤ 1 → obey 0 y (read-king b) ≡ b
+  pub unreadable : 1 < b → obey 0 y (read-king b) ≡ y
+  pub graded : 1 ≤ g → obey g y (read-king b) ≡ y
 
 abbrev pub Kings-word : Type 0
 Kings-word = (g y b : ℕ) → KingsWord g y b
@@ -134,7 +140,7 @@ Sent-by-rounds =
 
 -- what `OutcomeBytes` says, of a run's outcomes
 abbrev pub Outcome-bytes : Type 0
-Outcome-bytes = (R : Run) → OutcomeBytes (R .n) (marked (R .marks)) (outcomes R)
+Outcome-bytes = (R : Run) → OutcomeBytes (R .n) (rounds (R .t)) (marked (R .marks)) (outcomes R)
 
 -- the run with another table
 abbrev pub with-table : Run → List ℕ → Run
@@ -166,6 +172,47 @@ abbrev pub Table-effect : Type 0
 Table-effect =
     (R : Run) (table : List ℕ) → Fits (R .n) (R .t) (R .T) → 1 ≤ R .sender → R .sender ≤ R .n
     → ((i : ℕ) → i < R .n → marked (R .marks) i ≡ true → SameWhereSpoken R table i) → SameEffect R (with-table R table)
+
+-- ---- what was garbled (request 4)
+
+-- no ballot of a good station is garbled at a station that expects it: of the log's bytes, from those who should speak
+abbrev pub Good-ballots-readable : Type 0
+Good-ballots-readable =
+    (R : Run) → R .value ≤ 1 → (r i j : ℕ) → 1 ≤ r → r ≤ rounds (R .t) → Good (R .n) (marked (R .marks)) i → j < R .n
+    → speaks (from-0 (R .sender)) (part r) i ≡ true → is-garbled (reading (part r) (at (log R) (place (R .n) r i j))) ≡ false
+
+-- and so, where no station is marked, every count is 0
+abbrev pub None-marked-none-garbled : Type 0
+None-marked-none-garbled =
+    (R : Run) → R .value ≤ 1 → ((i : ℕ) → i < R .n → marked (R .marks) i ≡ false) → (j : ℕ) → j < R .n → garbled-at (outcomes R) j ≡ 0
+
+-- a good station's count is that of the rows that the log has for it
+abbrev pub Count-by-log : Type 0
+Count-by-log =
+    (R : Run) (j : ℕ) → Good (R .n) (marked (R .marks)) j
+    → garbled-at (outcomes R) j ≡ count (rounds (R .t)) (λ m. some-garbled (R .n) (from-0 (R .sender)) (part (suc m)) (at (column (R .n) (log R) j (suc m))))
+
+-- the automaton's count, after any rows, is that of these rows
+abbrev pub Count-after-rows : Type 0
+Count-after-rows =
+    (c : Setup) (v : ℕ) (rows : ℕ → List ℕ) (m : ℕ)
+    → after c v rows m .garbled ≡ count m (λ k. some-garbled (c .n) (c .sender-from-0) (part (suc k)) (at (rows (suc k))))
+
+-- states that are the same but for the count
+pub record SameButCount (s s′ : State) : Type 0 where
+  pub round-is : s .round ≡ s′ .round
+  pub value-is : s .value ≡ s′ .value
+  pub z-is : s .z ≡ s′ .z
+  pub grade-is : s .grade ≡ s′ .grade
+
+-- the count has no effect on anything else: such states tell the same ballot, and after the same row they are again the same but for the count. Logs, values,
+-- grades and flags are those of before, whose definitions name no count
+pub record CountWithoutEffect (c : Setup) (s s′ : State) (row : ℕ → ℕ) : Type 0 where
+  pub ballots : ballot c s ≡ ballot c s′
+  pub states : SameButCount (advance c s row) (advance c s′ row)
+
+abbrev pub Count-without-effect : Type 0
+Count-without-effect = (c : Setup) (s s′ : State) (row : ℕ → ℕ) → SameButCount s s′ → CountWithoutEffect c s s′ row
 
 -- ---- demand 3
 
@@ -213,7 +260,7 @@ pub record Follows (R : Run) (j v : ℕ) : Type 0 where
   pub ballots : (m k : ℕ) → m < rounds (R .t) → k < R .n
       → ballot (setup R j) (after (setup R j) v (column (R .n) (log R) j) m) ≡ at (log R) (place (R .n) (m + 1) j k)
   pub done-after : result (setup R j) (after (setup R j) v (column (R .n) (log R) j) (rounds (R .t)))
-      ≡ done (value-at (outcomes R) j) (grade-at (outcomes R) j) (flag-at (outcomes R) j)
+      ≡ done (value-at (outcomes R) j) (grade-at (outcomes R) j) (flag-at (outcomes R) j) (garbled-at (outcomes R) j)
 
 -- the value that a station is opened with "matters only at the sender"
 abbrev pub Station-follows-run : Type 0
@@ -235,7 +282,7 @@ pub record MakeRun (R : Run) (v : ℕ → ℕ) : Type 0 where
   pub the-log : (bytes : List ℕ) → PutTogether R v bytes → bytes ≡ log R
   pub the-outcomes : (bytes : List ℕ) → PutTogether R v bytes → (i : ℕ) → Good (R .n) (marked (R .marks)) i
       → result (setup R i) (after (setup R i) (v i) (column (R .n) bytes i) (rounds (R .t)))
-      ≡ done (value-at (outcomes R) i) (grade-at (outcomes R) i) (flag-at (outcomes R) i)
+      ≡ done (value-at (outcomes R) i) (grade-at (outcomes R) i) (flag-at (outcomes R) i) (garbled-at (outcomes R) i)
   pub log-is-such : PutTogether R v (log R)
 
 abbrev pub Stations-make-run : Type 0
@@ -249,7 +296,7 @@ Stations-make-run =
 pub record DoneAfter (c : Setup) (v : ℕ) (rows : ℕ → List ℕ) : Type 0 where
   pub round-is : (m : ℕ) → after c v rows m .round ≡ m + 1
   pub running-before : (m : ℕ) → m < rounds (c .t) → result c (after c v rows m) ≡ running (m + 1)
-  pub done-after : let s = after c v rows (rounds (c .t)) in result c s ≡ done (s .value) (s .grade) (flag-of (s .grade))
+  pub done-after : let s = after c v rows (rounds (c .t)) in result c s ≡ done (s .value) (s .grade) (flag-of (s .grade)) (s .garbled)
 
 abbrev pub Done-after-rows : Type 0
 Done-after-rows = (c : Setup) (v : ℕ) (rows : ℕ → List ℕ) → DoneAfter c v rows

@@ -43,6 +43,13 @@ largest-table = 36864
 abbrev pub exchange-length : ℕ → ℕ
 exchange-length n = 2 * n * n
 
--- "An outcome is three bytes a station"
+-- request 4: "The outcome becomes four bytes a station": value, grade, flag, and how many rounds had a garbled ballot
+abbrev pub outcome-size : ℕ
+outcome-size = 4
+
 abbrev pub outcomes-length : ℕ → ℕ
-outcomes-length n = 3 * n
+outcomes-length n = outcome-size * n
+
+-- the longest outcomes
+abbrev pub largest-outcomes : ℕ
+largest-outcomes = outcomes-length most-stations

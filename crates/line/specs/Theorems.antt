@@ -1,10 +1,12 @@
 -- The statements that proofs/Theorems.antt proves, each under the same name in lower case.
 use Prim.Native.Nat.{ℕ, _+_, _-_, _*_, _^_, _≤_, _<_}
 use mathlib.Core.Path.{_≡_}
-use mathlib.Core.Bool.{Bool, true, false, not}
-use Rattle.line.specs.Count.{count}
+use mathlib.Core.Bool.{Bool, true, false, not, _&&_}
+use lib.Dec.{leb, ltb, eqb}
+use Rattle.line.specs.Count.{if_then_else_, count}
 use Rattle.line.specs.Line.{most-stations, Fits, table-length, place, largest-table}
 use Rattle.line.specs.Marks.{marked, mark-beyond, faults, marks-of}
+use Rattle.line.specs.Ballot.{blank, silence, read-sender, read-first, read-second, read-king, is-garbled, sender-value, first-value, second-value, king-value}
 
 -- ---- f
 
@@ -59,3 +61,26 @@ Marks-are = (n : ℕ) (p : ℕ → Bool) → MarksAre n p
 
 abbrev pub Marks-back : Type 0
 Marks-back = (n marks : ℕ) → mark-beyond n marks ≡ false → marks-of n (marked marks) ≡ marks
+
+-- ---- the readings (request 4)
+
+-- "A byte is garbled if it is not 255 and its round has no meaning for it; blank is garbled outside the second round of an exchange."
+pub record GarbledWhere (b : ℕ) : Type 0 where
+  pub sender : is-garbled (read-sender b) ≡ (ltb 1 b && not (eqb b silence))
+  pub first : is-garbled (read-first b) ≡ (ltb 1 b && not (eqb b silence))
+  pub second : is-garbled (read-second b) ≡ (ltb blank b && not (eqb b silence))
+  pub king : is-garbled (read-king b) ≡ (ltb 1 b && not (eqb b silence))
+
+abbrev pub Garbled-where : Type 0
+Garbled-where = (b : ℕ) → GarbledWhere b
+
+-- what the steps make of a byte is what they made of it before it was said which it was: 0 and 1 as they are, and for any other the default of document 01
+-- and request 2
+pub record ValuesStay (y b : ℕ) : Type 0 where
+  pub sender : sender-value b ≡ (if leb b 1 then b else 0)
+  pub first : first-value b ≡ (if leb b 1 then b else blank)
+  pub second : second-value b ≡ (if leb b 1 then b else blank)
+  pub king : king-value y (read-king b) ≡ (if leb b 1 then b else y)
+
+abbrev pub Values-stay : Type 0
+Values-stay = (y b : ℕ) → ValuesStay y b

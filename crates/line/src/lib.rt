@@ -1,6 +1,6 @@
 // The line of stations: its type with what follows from n, t and T, the readings of a ballot byte, and marks.
 ghost use mathlib.Core.Path.{_≡_};
-ghost use Rattle.line.specs.Line.{most-stations, rounds, table-length, has-round, largest-table, exchange-length, outcomes-length};
+ghost use Rattle.line.specs.Line.{most-stations, rounds, table-length, has-round, largest-table, exchange-length, outcome-size, outcomes-length, largest-outcomes};
 ghost use Rattle.line.specs.Ballot.{blank, silence};
 
 pub mod ballot;
@@ -26,6 +26,12 @@ impl Line {
 
     // The longest run table of any accepted line, in bytes.
     pub const LARGEST_TABLE: usize = 36864;
+
+    // The bytes of a station's outcome: value, grade, flag, and how many rounds had a garbled ballot.
+    pub const OUTCOME: usize = 4;
+
+    // The most bytes that the outcomes of a line have.
+    pub const LARGEST_OUTCOMES: usize = 128;
 
     // R, the rounds of a broadcast.
     pub fn rounds(self) -> usize
@@ -68,11 +74,16 @@ impl Line {
     pub fn outcomes_len(self) -> usize
         ensures { λ r. ⌜ r ≡ outcomes-length (self .n) ⌝ }
     {
-        3 * (self.n as usize)
+        Line::OUTCOME * (self.n as usize)
     }
 }
 
 // The constants are the definitions' numbers: this holds by its contract alone.
 fn constants_agree()
-    ensures { λ _. do ⌜ ((← ⟦Line::STATIONS⟧ .entry) ≡ most-stations) × ((← ⟦Line::BLANK⟧ .entry) ≡ blank) × ((← ⟦Line::SILENCE⟧ .entry) ≡ silence) × ((← ⟦Line::LARGEST_TABLE⟧ .entry) ≡ largest-table) ⌝ }
+    ensures { λ _. do ⌜ ((← ⟦Line::STATIONS⟧ .entry) ≡ most-stations) × ((← ⟦Line::BLANK⟧ .entry) ≡ blank) × ((← ⟦Line::SILENCE⟧ .entry) ≡ silence) ⌝ }
+{}
+
+// The lengths too.
+fn lengths_agree()
+    ensures { λ _. do ⌜ ((← ⟦Line::LARGEST_TABLE⟧ .entry) ≡ largest-table) × ((← ⟦Line::OUTCOME⟧ .entry) ≡ outcome-size) × ((← ⟦Line::LARGEST_OUTCOMES⟧ .entry) ≡ largest-outcomes) ⌝ }
 {}

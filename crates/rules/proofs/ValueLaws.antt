@@ -7,9 +7,9 @@ use native.Mathlib.Omega.{arith}
 use lib.Dec.{eqb}
 use borrow.Author.Tests.{eqb-true, eqb-false, eq-eqb}
 use Rattle.line.specs.Line.{from-0, rounds, place}
-use Rattle.line.specs.Ballot.{silence, read-sender}
+use Rattle.line.specs.Ballot.{silence, sender-value}
 use Rattle.line.proofs.CountLaws.{if-true}
-use Rattle.line.proofs.BallotLaws.{read-sender-keeps, read-sender-bit}
+use Rattle.line.proofs.BallotLaws.{sender-value-keeps, sender-value-bit}
 use Rattle.broadcast.specs.Station.{opened, at, after}
 use Rattle.broadcast.specs.Bytes.{column}
 use Rattle.broadcast.proofs.RoundLaws.{is-sender, ballot-sender}
@@ -47,18 +47,18 @@ module _ (L : Logged) (some : 0 < L .n) where
         outcome = sym (E .results (rounds (L .t))) ∙ K .outcome;
       }
 
-  with-told : (i v : ℕ) → v ≤ 1 → KeepsWith L i v → KeepsWith L i (read-sender told)
+  with-told : (i v : ℕ) → v ≤ 1 → KeepsWith L i v → KeepsWith L i (sender-value told)
   with-told i v h K = go (eqb i (from-0 (L .sender))) refl
     where
-      at-sender : (k : ℕ) → k ≡ from-0 (L .sender) → KeepsWith L k v → KeepsWith L k (read-sender told)
-      at-sender k e K = let K′ = rw e at K in rw (sender-told v K′, read-sender-keeps v h) K
+      at-sender : (k : ℕ) → k ≡ from-0 (L .sender) → KeepsWith L k v → KeepsWith L k (sender-value told)
+      at-sender k e K = let K′ = rw e at K in rw (sender-told v K′, sender-value-keeps v h) K
 
-      go : (b : Bool) → eqb i (from-0 (L .sender)) ≡ b → KeepsWith L i (read-sender told)
+      go : (b : Bool) → eqb i (from-0 (L .sender)) ≡ b → KeepsWith L i (sender-value told)
       go true e = at-sender i (eqb-true i (from-0 (L .sender)) e) K
-      go false e = other-value i v (read-sender told) (eqb-false i (from-0 (L .sender)) e) K
+      go false e = other-value i v (sender-value told) (eqb-false i (from-0 (L .sender)) e) K
 
-  pub one-value : (i : ℕ) → keeps L i ≡ keeps-with L i (read-sender (at (L .log) (place (L .n) 1 (from-0 (L .sender)) 0)))
+  pub one-value : (i : ℕ) → keeps L i ≡ keeps-with L i (sender-value (at (L .log) (place (L .n) 1 (from-0 (L .sender)) 0)))
   unfolding told
   one-value i =
-      same-test _ _ (λ e. with-hold L i (read-sender told) (with-told i (own-value L i) (own-bit L i) (keeps-true L i e)))
-      (λ e. keeps-hold L i (read-sender told, read-sender-bit told, with-true L i (read-sender told) e))
+      same-test _ _ (λ e. with-hold L i (sender-value told) (with-told i (own-value L i) (own-bit L i) (keeps-true L i e)))
+      (λ e. keeps-hold L i (sender-value told, sender-value-bit told, with-true L i (sender-value told) e))

@@ -1,4 +1,4 @@
--- Which stations broke the rules (document 02, Ticket 3): in the ticket's words, and then as a test.
+-- Which stations broke the rules (document 02, requests 3 and 4): in the ticket's words, and then as a test.
 use Prim.Native.Nat.{ℕ, _+_, _-_, _≤_, _<_}
 use mathlib.Core.Path.{_≡_}
 use mathlib.Core.Logic.{_↔_}
@@ -11,7 +11,7 @@ use Rattle.line.specs.Marks.{marked, marks-of}
 use Rattle.broadcast.specs.Exchange.{flag-of}
 use Rattle.broadcast.specs.Station.{Setup, State, Result, done, ballot, result, at, after}
 use Rattle.broadcast.specs.Bytes.{column}
-use Rattle.broadcast.specs.Theorems.{value-at, grade-at, flag-at}
+use Rattle.broadcast.specs.Theorems.{value-at, grade-at, flag-at, garbled-at}
 
 -- "takes n, t, T, sender, log and outcomes": in document 01's own numbers and layout; the sender is from 1 to n
 pub record Logged : Type 0 where
@@ -22,15 +22,11 @@ pub record Logged : Type 0 where
   pub log : List ℕ
   pub outcomes : List ℕ
 
--- ---- an outcome's bytes: what depends on their number, three, is here, in `outcome-is` and in proofs/OutcomeLaws.antt
-
--- "An outcome is three bytes a station"
-abbrev pub outcome-size : ℕ
-outcome-size = 3
+-- ---- an outcome's bytes: what depends on their number is here, in `outcome-is` and in proofs/OutcomeLaws.antt
 
 -- the outcome that stands for station i in outcome bytes, as a station answers it
 unfoldable pub outcome-at : List ℕ → ℕ → Result
-outcome-at bytes i = done (value-at bytes i) (grade-at bytes i) (flag-at bytes i)
+outcome-at bytes i = done (value-at bytes i) (grade-at bytes i) (flag-at bytes i) (garbled-at bytes i)
 
 -- ---- in the ticket's words
 
@@ -64,7 +60,8 @@ pub record Exactly (L : Logged) (marks : ℕ) : Type 0 where
 -- a done station's outcome is the one that stands for station i
 unfoldable pub outcome-is : State → List ℕ → ℕ → Bool
 outcome-is s bytes i =
-    eqb (s .value) (value-at bytes i) && (eqb (s .grade) (grade-at bytes i) && eqb (flag-of (s .grade)) (flag-at bytes i))
+    eqb (s .value) (value-at bytes i)
+    && (eqb (s .grade) (grade-at bytes i) && (eqb (flag-of (s .grade)) (flag-at bytes i) && eqb (s .garbled) (garbled-at bytes i)))
 
 module _ (L : Logged) (i : ℕ) where
   -- in the round that m rows precede, the byte to j is the station's ballot

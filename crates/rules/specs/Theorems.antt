@@ -6,13 +6,13 @@ use mathlib.Core.Logic.{_↔_}
 use mathlib.Core.Bool.{true, false}
 use mathlib.Core.List.{List}
 use lib.ListN.{length}
-use Rattle.line.specs.Line.{Fits, from-0, table-length, place}
+use Rattle.line.specs.Line.{Fits, from-0, table-length, outcome-size, place}
 use Rattle.line.specs.Marks.{marked, mark-beyond}
-use Rattle.line.specs.Ballot.{read-sender}
+use Rattle.line.specs.Ballot.{sender-value}
 use Rattle.broadcast.specs.Station.{at}
 use Rattle.broadcast.specs.Bytes.{Run, log, outcomes}
 use Rattle.broadcast.specs.Guarantees.{Good}
-use Rattle.rules.specs.Rules.{Logged, outcome-size, Keeps, Exactly, keeps-with, keeps, broke}
+use Rattle.rules.specs.Rules.{Logged, Keeps, Exactly, keeps-with, keeps, broke}
 
 -- ---- the set
 
@@ -30,7 +30,7 @@ One-set = (L : Logged) (marks : ℕ) → Exactly L marks → marks ≡ broke L
 -- one value is enough to try at all stations: what is read of the sender's own byte of round 1, to the first station
 abbrev pub One-value-is-enough : Type 0
 One-value-is-enough =
-    (L : Logged) (i : ℕ) → 0 < L .n → keeps L i ≡ keeps-with L i (read-sender (at (L .log) (place (L .n) 1 (from-0 (L .sender)) 0)))
+    (L : Logged) (i : ℕ) → 0 < L .n → keeps L i ≡ keeps-with L i (sender-value (at (L .log) (place (L .n) 1 (from-0 (L .sender)) 0)))
 
 -- ---- the log as a run
 

@@ -1,15 +1,15 @@
--- `ballot::read_king` meets its contract: its default is y.
+-- `ballot::read_king` meets its contract: a round for bits alone.
 use borrow.Author.Needs.{needs}
 use Rattle.line.specs.Ballot.{read-king}
 use Rattle.line.proofs.ballot.read_king.Statement.{statement}
 use Rattle.line.proofs.ballot.read_king.Tie as tie
 
-bit-or-requires : tie.Need-bit-or-requires
-bit-or-requires c κs = search needs
+bit-round-requires : tie.Need-bit-round-requires
+bit-round-requires c κs = search needs
 
 returns : tie.Need-returns
 unfolding read-king
-returns c = c .bit-or .ensures
+returns c = c .bit-round .ensures
 
 pub read-king-spec : {M : Type 1} → statement M
-read-king-spec = tie.close (tie.spec bit-or-requires returns)
+read-king-spec = tie.close (tie.spec bit-round-requires returns)

@@ -1,15 +1,15 @@
--- `ballot::read_sender` meets its contract: its default is 0.
+-- `ballot::read_sender` meets its contract: a round for bits alone.
 use borrow.Author.Needs.{needs}
 use Rattle.line.specs.Ballot.{read-sender}
 use Rattle.line.proofs.ballot.read_sender.Statement.{statement}
 use Rattle.line.proofs.ballot.read_sender.Tie as tie
 
-bit-or-requires : tie.Need-bit-or-requires
-bit-or-requires c κs = search needs
+bit-round-requires : tie.Need-bit-round-requires
+bit-round-requires c κs = search needs
 
 returns : tie.Need-returns
 unfolding read-sender
-returns c = c .bit-or .ensures
+returns c = c .bit-round .ensures
 
 pub read-sender-spec : {M : Type 1} → statement M
-read-sender-spec = tie.close (tie.spec bit-or-requires returns)
+read-sender-spec = tie.close (tie.spec bit-round-requires returns)
