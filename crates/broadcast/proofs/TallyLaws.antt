@@ -11,7 +11,7 @@ use borrow.Author.Tests.{eqb-true, eqb-false, lt-ltb, le-ltb, le-leb, lt-leb, eq
 use Rattle.line.specs.Count.{if_then_else_, count}
 use Rattle.line.specs.Ballot.{blank, first-value, second-value, read-king, king-value}
 use Rattle.line.specs.declared.ballot.Ballot.{Ballot}
-use Rattle.line.proofs.CountLaws.{if-true, if-false, le-or-lt, count-zero, count-hit, count-miss, count-le, count-same, count-none, cover, mono, disjoint}
+use Rattle.line.proofs.CountLaws.{if-true, if-false, le-or-lt, count-zero, count-next, count-le, count-same, count-none, cover, mono, disjoint}
 use Rattle.line.proofs.BallotLaws.{first-value-bound, first-value-keeps, first-value-because, second-value-keeps, second-value-bound, second-value-because, king-value-keeps, king-value-unreadable, king-value-bit}
 use Rattle.broadcast.specs.Exchange.{Row, tally, firsts, seconds, z-from, z-of, y-from, y-of, for-y, grade-of, flag-of}
 use Rattle.broadcast.specs.Broadcast.{obey}
@@ -118,13 +118,9 @@ module _ (read : ℕ → ℕ) (v : ℕ) (row : Row) where
   unfolding tally
   tally-none = count-zero _
 
-  tally-hit : (i : ℕ) → read (row i) ≡ v → tally read (i + 1) v row ≡ tally read i v row + 1
+  tally-next : (i : ℕ) → tally read (i + 1) v row ≡ (if eqb (read (row i)) v then 1 else 0) + tally read i v row
   unfolding tally
-  tally-hit i e = count-hit i _ (eq-eqb (read (row i)) v e)
-
-  tally-miss : (i : ℕ) → read (row i) ≢ v → tally read (i + 1) v row ≡ tally read i v row
-  unfolding tally
-  tally-miss i e = count-miss i _ (ne-eqb (read (row i)) v e)
+  tally-next i = count-next i _
 
   tally-le : (n : ℕ) → tally read n v row ≤ n
   unfolding tally
@@ -135,13 +131,9 @@ module _ (v : ℕ) (row : Row) where
   unfolding firsts
   firsts-none = tally-none first-value v row
 
-  pub firsts-hit : (i : ℕ) → first-value (row i) ≡ v → firsts (i + 1) v row ≡ firsts i v row + 1
+  pub firsts-next : (i : ℕ) → firsts (i + 1) v row ≡ (if eqb (first-value (row i)) v then 1 else 0) + firsts i v row
   unfolding firsts
-  firsts-hit = tally-hit first-value v row
-
-  pub firsts-miss : (i : ℕ) → first-value (row i) ≢ v → firsts (i + 1) v row ≡ firsts i v row
-  unfolding firsts
-  firsts-miss = tally-miss first-value v row
+  firsts-next = tally-next first-value v row
 
   pub firsts-le : (n : ℕ) → firsts n v row ≤ n
   unfolding firsts
@@ -151,13 +143,9 @@ module _ (v : ℕ) (row : Row) where
   unfolding seconds
   seconds-none = tally-none second-value v row
 
-  pub seconds-hit : (i : ℕ) → second-value (row i) ≡ v → seconds (i + 1) v row ≡ seconds i v row + 1
+  pub seconds-next : (i : ℕ) → seconds (i + 1) v row ≡ (if eqb (second-value (row i)) v then 1 else 0) + seconds i v row
   unfolding seconds
-  seconds-hit = tally-hit second-value v row
-
-  pub seconds-miss : (i : ℕ) → second-value (row i) ≢ v → seconds (i + 1) v row ≡ seconds i v row
-  unfolding seconds
-  seconds-miss = tally-miss second-value v row
+  seconds-next = tally-next second-value v row
 
   pub seconds-le : (n : ℕ) → seconds n v row ≤ n
   unfolding seconds

@@ -30,6 +30,10 @@ pub count-zero : (p : ℕ → Bool) → count 0 p ≡ 0
 unfolding count
 count-zero p = refl
 
+pub count-next : (n : ℕ) (p : ℕ → Bool) → count (n + 1) p ≡ (if p n then 1 else 0) + count n p
+unfolding count
+count-next n p = rw (add-one n)
+
 pub count-hit : (n : ℕ) (p : ℕ → Bool) → p n ≡ true → count (n + 1) p ≡ count n p + 1
 unfolding count
 count-hit n p e = rw (add-one n, e) (omega arith)
@@ -129,6 +133,12 @@ count-change (suc n) x p q l e same =
     let here : q n ≡ p n = same n (omega arith) (λ r. omega arith) in
     rw here (omega arith))
     (eq-or-lt-of-le (le-of-suc-le-suc l))
+
+-- only station k can pass
+pub count-one : (n k : ℕ) (q : ℕ → Bool) → k < n → count n (λ i. eqb i k && q i) ≡ (if q k then 1 else 0)
+count-one n k q l =
+    count-change n k (λ i. false) (λ i. eqb i k && q i) l refl (λ i u ne. rw (ne-eqb i k ne))
+    ∙ rw (eq-eqb k k refl, count-none n) (omega arith)
 
 -- ---- two numbers of stations
 

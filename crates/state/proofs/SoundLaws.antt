@@ -5,7 +5,7 @@ use mathlib.Core.List.{List}
 use mathlib.Core.Logic.{_⊎_, inl, inr}
 use native.Mathlib.Omega.{arith}
 use lib.ListN.{length}
-use borrow.Author.Tests.{ltb-false, eqb-false, le-ltb, ne-eqb}
+use borrow.Author.Tests.{ltb-false, leb-false, eqb-false, le-ltb, lt-leb, ne-eqb}
 use Rattle.line.specs.Line.{rounds}
 use Rattle.header.specs.Header.{station-number}
 use Rattle.refusal.specs.Cause.{_or-else_}
@@ -36,7 +36,8 @@ sound s e =
     let (some, most, fits) = line-sound (s .n) (s .t) (s .upper) a in
     let (r, f₂) = neither _ _ (accepted-false _ _ f) in
     let (v, f₃) = neither _ _ f₂ in
-    let (z, g) = neither _ _ f₃ in
+    let (z, f₄) = neither _ _ f₃ in
+    let (g, k) = neither _ _ f₄ in
     let sender = inside 1 (s .n) (s .sender) (accepted-false _ _ c) in
     let own = inside 1 (s .n) (s .own) (accepted-false _ _ d) in
     let round = inside 1 (rounds (s .t) + 1) (s .round) r in
@@ -52,6 +53,7 @@ sound s e =
       value-bit = ltb-false 1 (s .value) v;
       z-high = ltb-false 2 (s .z) z;
       grade-high = ltb-false 2 (s .grade) g;
+      garbled-below = leb-false (s .round) (s .garbled) k;
     }
 
 pub telling-sound : (s : Station) → telling-verdict s ≡ Accepted → Sound s × (s .round ≤ rounds (s .t))
@@ -81,7 +83,7 @@ ready s row e =
 pub sound-accepts : (s : Station) → Sound s → station-verdict s ≡ Accepted
 unfolding station-verdict state-verdict foreign-state
 sound-accepts s h =
-    rw (line-accepts (s .n) (s .t) (s .upper) (h .most) (h .fits), number-accepts (s .n) (s .sender) (h .sender-low) (h .sender-high), number-accepts (s .n) (s .own) (h .own-low) (h .own-high), inside-not 1 (rounds (s .t) + 1) (s .round) (h .round-low) (h .round-high), le-ltb 1 (s .value) (h .value-bit), le-ltb 2 (s .z) (h .z-high), le-ltb 2 (s .grade) (h .grade-high))
+    rw (line-accepts (s .n) (s .t) (s .upper) (h .most) (h .fits), number-accepts (s .n) (s .sender) (h .sender-low) (h .sender-high), number-accepts (s .n) (s .own) (h .own-low) (h .own-high), inside-not 1 (rounds (s .t) + 1) (s .round) (h .round-low) (h .round-high), le-ltb 1 (s .value) (h .value-bit), le-ltb 2 (s .z) (h .z-high), le-ltb 2 (s .grade) (h .grade-high), lt-leb (s .round) (s .garbled) (h .garbled-below))
     (refused-false _ refl)
 
 pub telling-accepts : (s : Station) → Sound s → s .round ≤ rounds (s .t) → telling-verdict s ≡ Accepted

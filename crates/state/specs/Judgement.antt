@@ -1,9 +1,9 @@
--- What a station's calls refuse: causes 2, 3, 4, 5, 7 and 8, the lowest first (document 01, "Refused causes").
-use Prim.Native.Nat.{ℕ, _+_, _≤_}
+-- What a station's calls refuse: causes 2, 3, 4, 5, 7 and 8, the lowest first (document 01, "Refused causes"; document 02, request 4).
+use Prim.Native.Nat.{ℕ, _+_, _≤_, _<_}
 use mathlib.Core.Path.{_≡_}
 use mathlib.Core.Bool.{Bool, _||_}
 use mathlib.Core.List.{List}
-use lib.Dec.{ltb, eqb}
+use lib.Dec.{leb, ltb, eqb}
 use lib.ListN.{length}
 use Rattle.line.specs.Line.{Fits, rounds}
 use Rattle.refusal.specs.Cause.{refused-if, _or-else_}
@@ -12,12 +12,14 @@ use Rattle.refusal.specs.declared.cause.Cause.the-variants.{StationState}
 use Rattle.refusal.specs.declared.cause.Verdict.{Verdict}
 use Rattle.state.specs.declared.Station.{Station}
 
--- "a station state whose round is outside 1 to R+1, value above 1, z or grade above 2"
-unfoldable pub foreign-state : ℕ → ℕ → ℕ → ℕ → ℕ → Bool
-foreign-state t round value z grade = outside 1 (rounds t + 1) round || (ltb 1 value || (ltb 2 z || ltb 2 grade))
+-- "a station state whose round is outside 1 to R+1, value above 1, z or grade above 2", and (request 4) "A state whose count is not below its round": the
+-- count is at or above the round
+unfoldable pub foreign-state : ℕ → ℕ → ℕ → ℕ → ℕ → ℕ → Bool
+foreign-state t round value z grade garbled =
+    outside 1 (rounds t + 1) round || (ltb 1 value || (ltb 2 z || (ltb 2 grade || leb round garbled)))
 
 unfoldable pub state-verdict : Station → Verdict
-state-verdict s = refused-if (foreign-state (s .t) (s .round) (s .value) (s .z) (s .grade)) StationState
+state-verdict s = refused-if (foreign-state (s .t) (s .round) (s .value) (s .z) (s .grade) (s .garbled)) StationState
 
 -- "It is done after exactly R accepted rows."
 unfoldable pub is-done : ℕ → ℕ → Bool
@@ -60,6 +62,7 @@ pub record Sound (s : Station) : Type 0 where
   pub value-bit : s .value ≤ 1
   pub z-high : s .z ≤ 2
   pub grade-high : s .grade ≤ 2
+  pub garbled-below : s .garbled < s .round
 
 -- a station that can take the row
 pub record Ready (s : Station) (row : List ℕ) : Type 0 where

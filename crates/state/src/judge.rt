@@ -18,9 +18,9 @@ fn last_round(t: u8) -> usize
     line.rounds() + 1
 }
 
-// A round outside 1 to R + 1, a value above 1, z or grade above 2.
-fn foreign_state(t: u8, round: u8, value: u8, z: u8, grade: u8) -> bool
-    ensures { λ r. ⌜ r ≡ foreign-state t round value z grade ⌝ }
+// A round outside 1 to R + 1, a value above 1, z or grade above 2, or a count of garbled rounds that is not below the round.
+fn foreign_state(t: u8, round: u8, value: u8, z: u8, grade: u8, garbled: u8) -> bool
+    ensures { λ r. ⌜ r ≡ foreign-state t round value z grade garbled ⌝ }
 {
     if round < 1 {
         return true;
@@ -34,7 +34,10 @@ fn foreign_state(t: u8, round: u8, value: u8, z: u8, grade: u8) -> bool
     if 2 < z {
         return true;
     }
-    2 < grade
+    if 2 < grade {
+        return true;
+    }
+    round <= garbled
 }
 
 pub fn is_done(t: u8, round: u8) -> bool
@@ -48,7 +51,7 @@ fn state(s: Station) -> Verdict
     ensures { λ r. ⌜ r ≡ state-verdict s ⌝ }
 {
     Verdict::refused_if(
-        foreign_state(s.t, s.round, s.value, s.z, s.grade),
+        foreign_state(s.t, s.round, s.value, s.z, s.grade, s.garbled),
         Cause::StationState,
     )
 }

@@ -14,4 +14,5 @@ pub struct Station {
     pub value: u8,
     pub z: u8,
     pub grade: u8,
+    pub garbled: u8,
 }

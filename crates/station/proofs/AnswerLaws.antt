@@ -50,7 +50,7 @@ advances s row r e =
 result-case : (v : Verdict) (q : Result)
     → (result-number (result-by v (as-result q)) ≡ code v) × (result-values (result-by v (as-result q)) ≡ given v (automaton-values q))
 result-case Accepted (running r) = (refl, refl)
-result-case Accepted (done v g f) = (refl, refl)
+result-case Accepted (done v g f k) = (refl, refl)
 result-case (Refused c) q = (refl, refl)
 
 pub results : (s : Station) (r : StationResult) → r ≡ result-by (station-verdict s) (result-of s) → Results s r

@@ -13,7 +13,7 @@ use Rattle.refusal.specs.declared.cause.Verdict.the-variants.{Accepted, Refused
 use Rattle.refusal.proofs.VerdictLaws.{both-accepted, accepted-false, refused-true}
 use Rattle.header.proofs.HeaderLaws.{inside, line-sound}
 use Rattle.broadcast.specs.Station.{advance, result, at, after}
-use Rattle.broadcast.proofs.RoundLaws.{after-range, after-round, done-after}
+use Rattle.broadcast.proofs.RoundLaws.{after-range, after-round, after-count-le, done-after}
 use Rattle.state.specs.declared.Station.{Station}
 use Rattle.state.specs.Judgement.{is-done, telling-verdict, taking-verdict, opening-verdict, Sound}
 use Rattle.station.specs.Automaton.{setup-of, state-of, in-state, opened-station, as-result, result-of}
@@ -82,6 +82,7 @@ module _ (o : Opening) (e : opening-verdict (o .n) (o .t) (o .T) (o .sender) (o 
         value-bit = g .value-bit;
         z-high = g .z-high;
         grade-high = g .grade-high;
+        garbled-below = omega (arith, after-count-le (setup o) (o .value) rows m);
       }
 
   last : S (rounds (o .t)) .round ≡ rounds (o .t) + 1

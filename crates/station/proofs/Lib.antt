@@ -1,5 +1,6 @@
 -- Theorems has the proof of the statement of specs/Theorems.antt, by CallLaws. TakeLaws and AnswerLaws are of a station's step and answers; and in a folder for
 -- each function is the proof that it meets its contract.
+pub mod TallyLaws
 pub mod TakeLaws
 pub mod AnswerLaws
 pub mod CallLaws

@@ -22,10 +22,10 @@ use Rattle.station.specs.Automaton.{setup-of, state-of, in-state, opened
 
 -- ---- opening
 
--- a station's nine bytes
+-- a station's ten bytes
 abbrev pub bytes-of : Station → List ℕ
 bytes-of s =
-    s .n ∷ s .t ∷ s .upper ∷ s .sender ∷ s .own ∷ s .round ∷ s .value ∷ s .z ∷ s .grade ∷ []
+    s .n ∷ s .t ∷ s .upper ∷ s .sender ∷ s .own ∷ s .round ∷ s .value ∷ s .z ∷ s .grade ∷ s .garbled ∷ []
 
 abbrev pub opened-number : Opened → ℕ
 opened-number (opened.Ready s) = 0
@@ -99,12 +99,12 @@ pub record Advances (s : Station) (row : List ℕ) (r : Advanced) : Type 0 where
 
 abbrev pub result-number : StationResult → ℕ
 result-number (station-result.Running r) = 0
-result-number (station-result.Done v g f) = 0
+result-number (station-result.Done v g f k) = 0
 result-number (station-result.Refused c) = number c
 
 abbrev pub result-values : StationResult → List ℕ
 result-values (station-result.Running r) = r ∷ []
-result-values (station-result.Done v g f) = v ∷ g ∷ f ∷ []
+result-values (station-result.Done v g f k) = v ∷ g ∷ f ∷ k ∷ []
 result-values (station-result.Refused c) = []
 
 abbrev pub result-by : Verdict → StationResult → StationResult
@@ -114,7 +114,7 @@ result-by (verdict.Refused c) o = station-result.Refused c
 -- the automaton's result in values
 abbrev pub automaton-values : Result → List ℕ
 automaton-values (running r) = r ∷ []
-automaton-values (done v g f) = v ∷ g ∷ f ∷ []
+automaton-values (done v g f k) = v ∷ g ∷ f ∷ k ∷ []
 
 -- what `result` answers
 abbrev pub result-answer : Station → StationResult

@@ -12,7 +12,7 @@ setup-of s =
     record { n = s .n; t = s .t; T = s .upper; sender-from-0 = from-0 (s .sender); own-from-0 = from-0 (s .own) }
 
 abbrev pub state-of : Station → State
-state-of s = record { round = s .round; value = s .value; z = s .z; grade = s .grade }
+state-of s = record { round = s .round; value = s .value; z = s .z; grade = s .grade; garbled = s .garbled }
 
 -- the same station in another state
 abbrev pub in-state : Station → State → Station
@@ -26,6 +26,7 @@ in-state s st = record {
   value = st .value;
   z = st .z;
   grade = st .grade;
+  garbled = st .garbled;
 }
 
 -- a station with these numbers in a state
@@ -40,6 +41,7 @@ station-in n t T sender own st = record {
   value = st .value;
   z = st .z;
   grade = st .grade;
+  garbled = st .garbled;
 }
 
 unfoldable pub opened-station : ℕ → ℕ → ℕ → ℕ → ℕ → ℕ → Station
@@ -48,7 +50,7 @@ opened-station n t T sender own value = station-in n t T sender own (opened valu
 -- the automaton's result as the call's answer
 abbrev pub as-result : Result → StationResult
 as-result (running r) = Running r
-as-result (done v g f) = Done v g f
+as-result (done v g f k) = Done v g f k
 
 unfoldable pub result-of : Station → StationResult
 result-of s = as-result (result (setup-of s) (state-of s))

@@ -48,7 +48,7 @@ pub record InARow (o : Opening) (rows : ℕ → List ℕ) : Type 0 where
   -- "It is done after exactly R accepted rows."
   pub running : (m : ℕ) → m < rounds (o .t) → result-answer (station-after o rows m) ≡ station-result.Running (m + 1)
   pub done : let s = state-after o rows (rounds (o .t)) in
-      result-answer (station-after o rows (rounds (o .t))) ≡ station-result.Done (s .value) (s .grade) (flag-of (s .grade))
+      result-answer (station-after o rows (rounds (o .t))) ≡ station-result.Done (s .value) (s .grade) (flag-of (s .grade)) (s .garbled)
   -- and refuses by 7 what is wanted of it then, whatever the row's length
   pub tells-no-more : ballot-answer (station-after o rows (rounds (o .t))) ≡ told.Refused StationState
   pub takes-no-more : (row : List ℕ) → advance-answer (station-after o rows (rounds (o .t))) row ≡ advanced.Refused StationState

@@ -29,7 +29,12 @@ pub enum Advanced {
 // The answer to asking for the result.
 pub enum StationResult {
     Running(u8),
-    Done { value: u8, grade: u8, flag: u8 },
+    Done {
+        value: u8,
+        grade: u8,
+        flag: u8,
+        garbled: u8,
+    },
     Refused(Cause),
 }
 
@@ -66,7 +71,7 @@ pub fn advance(s: Station, row: &[u8]) -> Advanced
     }
 }
 
-// Running with its round, or done with value, grade and flag.
+// Running with its round, or done with value, grade, flag and how many rounds had a garbled ballot.
 pub fn result(s: Station) -> StationResult
     ensures { λ r. ⌜ Results s r ⌝ }
 {

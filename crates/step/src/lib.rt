@@ -4,13 +4,16 @@ ghost use mathlib.Core.Path.{_≡_};
 ghost use Prim.Native.Nat.{_-_};
 ghost use lib.Dec.{eqb};
 ghost use Rattle.line.specs.Count.{if_then_else_};
-ghost use Rattle.line.specs.Ballot.{silence};
+ghost use Rattle.line.specs.Ballot.{silence, bit-or};
 ghost use Rattle.broadcast.specs.Exchange.{z-from, y-from, for-y, grade-of, flag-of};
 ghost use Rattle.broadcast.specs.Broadcast.{part, obey};
+ghost use Rattle.broadcast.specs.Garbled.{reading};
 ghost use Rattle.broadcast.specs.Station.{told};
 ghost use Rattle.step.specs.Part.{as-part, of-part};
+ghost use Rattle.step.specs.Noted.{noted};
 use line::Line;
 use line::ballot;
+use line::ballot::Ballot;
 
 // Which part of a broadcast a round is: the sender's, the first or the second round of an exchange, or the king's, with the king's number.
 pub enum Part {
@@ -54,6 +57,35 @@ pub fn told(part: Part, sender: u8, own: u8, value: u8, z: u8) -> u8
         Part::Second => z,
         Part::King(king) => spoken(king, own, value),
     }
+}
+
+// What a received byte was, in each part.
+pub fn read(part: Part, b: u8) -> Ballot
+    ensures { λ r. ⌜ r ≡ reading (of-part part) b ⌝ }
+{
+    match part {
+        Part::Sender => ballot::read_sender(b),
+        Part::First => ballot::read_first(b),
+        Part::Second => ballot::read_second(b),
+        Part::King(_) => ballot::read_king(b),
+    }
+}
+
+// The count of rounds with a garbled ballot after a round that has so many: one more, if any, and not beyond a byte.
+pub fn noted(garbled: u8, found: u8) -> u8
+    ensures { λ r. ⌜ r ≡ noted garbled found ⌝ }
+{
+    if found == 0 {
+        return garbled;
+    }
+    if garbled < 255 { 1 + garbled } else { garbled }
+}
+
+// Round 1: x, from what was heard of the sender.
+pub fn x(heard: Ballot) -> u8
+    ensures { λ r. ⌜ r ≡ bit-or 0 heard ⌝ }
+{
+    heard.bit_or(0)
 }
 
 // n less a threshold, 0 where the threshold is larger.
@@ -106,13 +138,9 @@ pub fn flag(grade: u8) -> u8
     if grade < 2 { 1 } else { 0 }
 }
 
-// The value after the king's byte: the byte at grade 0 if it can be read, otherwise the own y.
-pub fn obey(grade: u8, y: u8, b: u8) -> u8
-    ensures { λ r. ⌜ r ≡ obey grade y b ⌝ }
+// The value after the king's ballot: its bit at grade 0, if it has one, otherwise the own y.
+pub fn obey(grade: u8, y: u8, heard: Ballot) -> u8
+    ensures { λ r. ⌜ r ≡ obey grade y heard ⌝ }
 {
-    if grade == 0 {
-        ballot::read_king(y, b)
-    } else {
-        y
-    }
+    if grade == 0 { heard.bit_or(y) } else { y }
 }

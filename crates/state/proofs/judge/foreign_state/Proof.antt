@@ -37,9 +37,15 @@ returns-4 c =
 returns-5 : tie.Need-returns-5
 unfolding foreign-state outside
 returns-5 c =
-    let g = c .before .before .before .before .before .args in
-    rw (le-ltb (g .round) 1 (omega arith), le-ltb (rounds (g .t) + 1) (g .round) (omega arith), le-ltb 1 (g .value) (omega arith), le-ltb 2 (g .z) (omega arith))
+    let g = c .before .before .before .before .before .before .args in
+    rw (le-ltb (g .round) 1 (omega arith), le-ltb (rounds (g .t) + 1) (g .round) (omega arith), le-ltb 1 (g .value) (omega arith), le-ltb 2 (g .z) (omega arith), lt-ltb 2 (g .grade) (omega arith))
+
+returns-6 : tie.Need-returns-6
+unfolding foreign-state outside
+returns-6 c =
+    let g = c .before .before .before .before .before .before .args in
+    rw (le-ltb (g .round) 1 (omega arith), le-ltb (rounds (g .t) + 1) (g .round) (omega arith), le-ltb 1 (g .value) (omega arith), le-ltb 2 (g .z) (omega arith), le-ltb 2 (g .grade) (omega arith))
 
 pub foreign-state-spec : {M : Type 1} → statement M
 foreign-state-spec =
-    tie.close (tie.spec returns last-round-requires returns-2 returns-3 returns-4 returns-5)
+    tie.close (tie.spec returns last-round-requires returns-2 returns-3 returns-4 returns-5 returns-6)

@@ -16,7 +16,7 @@ next-requires c κs = search needs
 returns : tie.Need-returns
 returns c =
     let g = c .before .before .before .before in
-    first-taken (g .args .s) (g .args .row .now) _ (g .pre .whole) _ _
+    first-taken (g .args .s) (g .args .row .now) _ (g .pre) _ _
     (c .before .before .firsts .ensures) (c .before .z .ensures) (c .next .ensures)
 
 pub take-first-spec : {M : Type 1} → statement M

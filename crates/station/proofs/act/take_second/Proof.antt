@@ -7,9 +7,6 @@ use Rattle.station.proofs.act.take_second.Tie as tie
 seconds-requires : tie.Need-seconds-requires
 seconds-requires c κs = search needs
 
-seconds-requires-2 : tie.Need-seconds-requires-2
-seconds-requires-2 c κs = search needs
-
 y-requires : tie.Need-y-requires
 y-requires c κs = search needs
 
@@ -22,11 +19,9 @@ next-requires c κs = search needs
 returns : tie.Need-returns
 returns c =
     let b = c .before .before .before in
-    let g = b .before .before .before in
-    second-taken (g .args .s) (g .args .row .now) _ (g .pre .whole) _ _ _ _ (b .before .seconds .ensures) (b .seconds2 .ensures)
+    let g = b .before .before in
+    second-taken (g .args .s) (g .args .row .now) _ (g .pre) _ (b .seconds .ensures) _ _
     (c .before .before .y .ensures) (c .before .grade .ensures) (c .next .ensures)
 
 pub take-second-spec : {M : Type 1} → statement M
-take-second-spec =
-    tie.close
-    (tie.spec seconds-requires seconds-requires-2 y-requires grade-requires next-requires returns)
+take-second-spec = tie.close (tie.spec seconds-requires y-requires grade-requires next-requires returns)

@@ -1,6 +1,7 @@
--- `act::take_sender` meets its contract.
+-- `act::take_sender` meets its contract: the sender's is the one ballot that is expected.
 use borrow.Author.Needs.{needs}
-use Rattle.broadcast.specs.Station.{taken, at}
+use Rattle.broadcast.specs.Station.{at}
+use Rattle.station.proofs.TakeLaws.{sender-taken}
 use Rattle.station.proofs.act.take_sender.Statement.{statement}
 use Rattle.station.proofs.act.take_sender.Tie as tie
 
@@ -16,12 +17,22 @@ shared-slice-read-read-sender c = search needs
 read-sender-requires : tie.Need-read-sender-requires
 read-sender-requires c κs = search needs
 
+x-requires : tie.Need-x-requires
+x-requires c κs = search needs
+
+garbled-requires : tie.Need-garbled-requires
+garbled-requires c κs = search needs
+
 next-requires : tie.Need-next-requires
 next-requires c κs = search needs
 
 returns : tie.Need-returns
-unfolding taken at
-returns c = rw (← c .before .read-sender .ensures) (c .next .ensures)
+unfolding at
+returns c =
+    let h = c .before .before .before in
+    let g = h .before .before .before .before in
+    sender-taken (g .args .s) (g .args .row .now) _ (g .pre) _ _ _
+    (h .read-sender .ensures) (c .before .before .x .ensures) (c .before .garbled .ensures) (c .next .ensures)
 
 pub take-sender-spec : {M : Type 1} → statement M
 take-sender-spec =
@@ -31,5 +42,7 @@ take-sender-spec =
     cast-from
     shared-slice-read-read-sender
     read-sender-requires
+    x-requires
+    garbled-requires
     next-requires
     returns)
