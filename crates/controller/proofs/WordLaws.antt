@@ -20,7 +20,7 @@ module _ (n t T sender own : ℕ) where
     pub told-as : (o : Told) → Tells s o → r ≡ answer-word (told-number o) (told-word o) → BallotAnswer n t T sender own state r
     told-as o p e = record { answer = rw (← q, ← p .answer) e }
 
-    pub advanced-as : (row : List ℕ) (o : Advanced) → Advances s row o → r ≡ answer-word (advanced-number o) (advanced-word state o)
+    pub advanced-as : (row : List ℕ) (o : Advanced) → Advances s row o → r ≡ answer-word (advanced-number o) (advanced-word s o)
         → AdvanceAnswer n t T sender own state row r
     advanced-as row o p e = record { answer = rw (← q, ← p .answer) e }
 

@@ -15,15 +15,15 @@ use Rattle.station.specs.declared.StationResult.{StationResult}
 use Rattle.station.specs.declared.StationResult.the-variants as station-result
 use Rattle.station.specs.Answers.{opened-number, open-answer, told-number, ballot-answer, advanced-number, advance-answer, result-number, result-answer}
 
--- four bytes as one number, the lowest first
-abbrev pub word : ℕ → ℕ → ℕ → ℕ → ℕ
-word a b c d = a + 256 * b + 65536 * c + 16777216 * d
+-- five bytes as one number, the lowest first
+abbrev pub word : ℕ → ℕ → ℕ → ℕ → ℕ → ℕ
+word a b c d e = a + 256 * b + 65536 * c + 16777216 * d + 4294967296 * e
 
--- a state: round, value, z, grade
+-- a state: round, value, z, grade, and the count of garbled rounds
 abbrev pub state-word : Station → ℕ
-state-word s = word (s .round) (s .value) (s .z) (s .grade)
+state-word s = word (s .round) (s .value) (s .z) (s .grade) (s .garbled)
 
--- the station that C hands over: what it was opened with, and its state
+-- the station that C hands over: what it was opened with, and its state, of which the five lowest bytes are looked at
 unfoldable pub station-of : ℕ → ℕ → ℕ → ℕ → ℕ → ℕ → Station
 station-of n t T sender own state = record {
   n = n;
@@ -35,6 +35,7 @@ station-of n t T sender own state = record {
   value = state / 256 % 256;
   z = state / 65536 % 256;
   grade = state / 16777216 % 256;
+  garbled = state / 4294967296 % 256;
 }
 
 -- ---- the values of each answer
@@ -49,15 +50,15 @@ abbrev pub told-word : Told → ℕ
 told-word (told.Ballot b) = b
 told-word (told.Refused c) = 0
 
--- the next state; the state handed in where it is refused, since causes 7 and 8 leave the station as it was
-abbrev pub advanced-word : ℕ → Advanced → ℕ
-advanced-word state (advanced.Next s) = state-word s
-advanced-word state (advanced.Refused c) = state
+-- the next state; that of the station handed in where it is refused, since causes 7 and 8 leave the station as it was
+abbrev pub advanced-word : Station → Advanced → ℕ
+advanced-word before (advanced.Next s) = state-word s
+advanced-word before (advanced.Refused c) = state-word before
 
--- 0 and the round while running, 1 and value, grade and flag when done
+-- 0 and the round while running, 1 and value, grade, flag and the count when done
 abbrev pub result-word : StationResult → ℕ
-result-word (station-result.Running r) = word 0 r 0 0
-result-word (station-result.Done v g f) = word 1 v g f
+result-word (station-result.Running r) = word 0 r 0 0 0
+result-word (station-result.Done v g f k) = word 1 v g f k
 result-word (station-result.Refused c) = 0
 
 -- ---- the promises
@@ -72,8 +73,9 @@ pub record BallotAnswer (n t T sender own state r : ℕ) : Type 0 where
 
 -- `vembopu_advance`: what `station::advance` answers
 pub record AdvanceAnswer (n t T sender own state : ℕ) (row : List ℕ) (r : ℕ) : Type 0 where
-  pub answer : let o = advance-answer (station-of n t T sender own state) row in
-      r ≡ answer-word (advanced-number o) (advanced-word state o)
+  pub answer : let s = station-of n t T sender own state in
+      let o = advance-answer s row in
+      r ≡ answer-word (advanced-number o) (advanced-word s o)
 
 -- `vembopu_result`: what `station::result` answers
 pub record ResultAnswer (n t T sender own state r : ℕ) : Type 0 where

@@ -1,5 +1,5 @@
 // The station for a bonder's controller in C: numbers, and the row's byte slice. C keeps the five numbers that the station was opened with and
-// a state of 32 bits. Each answer is 64 bits: document 01's number of the refusal above, 0 where nothing is refused, and the values below.
+// a state of five bytes. Each answer is 64 bits: the documents' number of the refusal in the highest byte, 0 where nothing is refused, and the values below.
 ghost use mathlib.Core.Path.{_≡_};
 ghost use Rattle.controller.specs.Words.{station-of, state-word, opened-word, told-word, advanced-word, result-word};
 ghost use Rattle.controller.specs.Words.{OpenAnswer, BallotAnswer, AdvanceAnswer, ResultAnswer};
@@ -27,17 +27,17 @@ pub extern "C" fn vembopu_open(n: u8, t: u8, upper: u8, sender: u8, own: u8, val
 
 // The ballot for the current round, 255 if the station doesn't speak.
 #[no_mangle]
-pub extern "C" fn vembopu_ballot(n: u8, t: u8, upper: u8, sender: u8, own: u8, state: u32) -> u64
+pub extern "C" fn vembopu_ballot(n: u8, t: u8, upper: u8, sender: u8, own: u8, state: u64) -> u64
     ensures { λ r. ⌜ BallotAnswer n t upper sender own state r ⌝ }
 {
     let told = station::ballot(words::station(n, t, upper, sender, own, state));
     match told {
-        Told::Ballot(b) => cause::answer(0, b as u32),
+        Told::Ballot(b) => cause::answer(0, b as u64),
         Told::Refused(c) => cause::answer(c.number(), 0),
     }
 }
 
-// The state after the row received in the current round; the same state where it is refused.
+// The state after the row received in the current round; the state handed in where it is refused.
 #[no_mangle]
 pub extern "C" fn vembopu_advance(
     n: u8,
@@ -45,30 +45,33 @@ pub extern "C" fn vembopu_advance(
     upper: u8,
     sender: u8,
     own: u8,
-    state: u32,
+    state: u64,
     row: &[u8],
 ) -> u64
     ensures { λ r. ⌜ AdvanceAnswer n t upper sender own state (now (row .entry)) r ⌝ }
 {
-    let advanced = station::advance(words::station(n, t, upper, sender, own, state), row);
+    let before = words::station(n, t, upper, sender, own, state);
+    let advanced = station::advance(before, row);
     match advanced {
         Advanced::Next(s) => cause::answer(0, words::state(s)),
-        Advanced::Refused(c) => cause::answer(c.number(), state),
+        Advanced::Refused(c) => cause::answer(c.number(), words::state(before)),
     }
 }
 
-// Running, with its round; or done, with value, grade and flag.
+// Running, with its round; or done, with value, grade, flag and how many rounds had a garbled ballot.
 #[no_mangle]
-pub extern "C" fn vembopu_result(n: u8, t: u8, upper: u8, sender: u8, own: u8, state: u32) -> u64
+pub extern "C" fn vembopu_result(n: u8, t: u8, upper: u8, sender: u8, own: u8, state: u64) -> u64
     ensures { λ r. ⌜ ResultAnswer n t upper sender own state r ⌝ }
 {
     let found = station::result(words::station(n, t, upper, sender, own, state));
     match found {
-        StationResult::Running(r) => cause::answer(0, words::four(0, r, 0, 0)),
-        StationResult::Done { value, grade, flag } => cause::answer(
-            0,
-            words::four(1, value, grade, flag),
-        ),
+        StationResult::Running(r) => cause::answer(0, words::five(0, r, 0, 0, 0)),
+        StationResult::Done {
+            value,
+            grade,
+            flag,
+            garbled,
+        } => cause::answer(0, words::five(1, value, grade, flag, garbled)),
         StationResult::Refused(c) => cause::answer(c.number(), 0),
     }
 }

@@ -3,22 +3,22 @@ ghost use mathlib.Core.Path.{_≡_};
 ghost use Rattle.controller.specs.Words.{word, station-of, state-word};
 use state::Station;
 
-// Four bytes as one number.
-pub(crate) fn four(a: u8, b: u8, c: u8, d: u8) -> u32
-    ensures { λ r. ⌜ r ≡ word a b c d ⌝ }
+// Five bytes as one number.
+pub(crate) fn five(a: u8, b: u8, c: u8, d: u8, e: u8) -> u64
+    ensures { λ r. ⌜ r ≡ word a b c d e ⌝ }
 {
-    a as u32 + 256 * (b as u32) + 65536 * (c as u32) + 16777216 * (d as u32)
+    a as u64 + 256 * (b as u64) + 65536 * (c as u64) + 16777216 * (d as u64) + 4294967296 * (e as u64)
 }
 
 // A station's state.
-pub(crate) fn state(s: Station) -> u32
+pub(crate) fn state(s: Station) -> u64
     ensures { λ r. ⌜ r ≡ state-word s ⌝ }
 {
-    four(s.round, s.value, s.z, s.grade)
+    five(s.round, s.value, s.z, s.grade, s.garbled)
 }
 
 // The station that these numbers are.
-pub(crate) fn station(n: u8, t: u8, upper: u8, sender: u8, own: u8, state: u32) -> Station
+pub(crate) fn station(n: u8, t: u8, upper: u8, sender: u8, own: u8, state: u64) -> Station
     ensures { λ r. ⌜ r ≡ station-of n t upper sender own state ⌝ }
 {
     Station {
@@ -31,5 +31,6 @@ pub(crate) fn station(n: u8, t: u8, upper: u8, sender: u8, own: u8, state: u32) 
         value: (state / 256 % 256) as u8,
         z: (state / 65536 % 256) as u8,
         grade: (state / 16777216 % 256) as u8,
+        garbled: (state / 4294967296 % 256) as u8,
     }
 }

@@ -1,4 +1,4 @@
-// A lent station: the caller's own is advanced by one row where it stands. C can call it too, with the struct's nine bytes.
+// A lent station: the caller's own is advanced by one row where it stands. C can call it too, with the struct's ten bytes.
 ghost use mathlib.Core.Path.{_≡_};
 ghost use Rattle.lent.specs.Lent.{taken, AdvancesLent};
 use refusal::cause::Cause;

@@ -1,5 +1,5 @@
 -- The causes of refusal by their numbers, and which of several is given (document 01, "Refused causes").
-use Prim.Native.Nat.{ℕ, _+_, _*_}
+use Prim.Native.Nat.{ℕ, _+_, _*_, _%_}
 use mathlib.Core.Path.{_≡_}
 use mathlib.Core.Bool.{Bool}
 use mathlib.Core.List.{List, []}
@@ -56,6 +56,6 @@ abbrev pub given : Verdict → List ℕ → List ℕ
 given Accepted values = values
 given (Refused c) values = []
 
--- an answer as one number, for C: the documents' number, 0 where nothing is refused, above the values, which are below 2 to the power 32
+-- an answer as one number, for C: the documents' number, 0 where nothing is refused, in the highest of eight bytes, and the values in the seven below
 abbrev pub answer-word : ℕ → ℕ → ℕ
-answer-word number values = 4294967296 * number + values
+answer-word number values = 72057594037927936 * number + values % 72057594037927936

@@ -82,9 +82,9 @@ impl Verdict {
     }
 }
 
-// For C: a number of the documents above the values of an answer.
-pub fn answer(number: u8, values: u32) -> u64
+// For C: a number of the documents in the highest byte, above the values of an answer, of which there are seven bytes.
+pub fn answer(number: u8, values: u64) -> u64
     ensures { λ r. ⌜ r ≡ answer-word number values ⌝ }
 {
-    4294967296 * (number as u64) + values as u64
+    72057594037927936 * (number as u64) + values % 72057594037927936
 }

@@ -25,6 +25,9 @@ enum-known-advanced-2 c = search needs
 number-requires : tie.Need-number-requires
 number-requires c κs = search needs
 
+state-requires-2 : tie.Need-state-requires-2
+state-requires-2 c κs = search needs
+
 answer-requires-2 : tie.Need-answer-requires-2
 answer-requires-2 c κs = search needs
 
@@ -35,8 +38,9 @@ returns c =
 
 returns-2 : tie.Need-returns-2
 returns-2 c =
-    advanced-as _ _ _ _ _ _ _ _ (c .before .before .before .before .before .before .station .ensures) _ _ (c .before .before .before .before .before .advance .ensures)
-    (rw (c .before .before .before .advanced2 .given .1, ← c .before .number .ensures) (c .answer2 .ensures))
+    let b = c .before .before .before .before .before .before in
+    advanced-as _ _ _ _ _ _ _ _ (b .before .station .ensures) _ _ (b .advance .ensures)
+    (rw (c .before .before .before .before .advanced2 .given .1, ← c .before .before .number .ensures, ← c .before .state2 .ensures) (c .answer2 .ensures))
 
 pub vembopu-advance-spec : {M : Type 1} → statement M
 vembopu-advance-spec =
@@ -49,6 +53,7 @@ vembopu-advance-spec =
     answer-requires
     enum-known-advanced-2
     number-requires
+    state-requires-2
     answer-requires-2
     returns
     returns-2)

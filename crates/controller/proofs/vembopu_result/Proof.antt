@@ -13,8 +13,8 @@ result-requires c κs = search needs
 enum-known-found : tie.Need-enum-known-found
 enum-known-found c = search needs
 
-four-requires : tie.Need-four-requires
-four-requires c κs = search needs
+five-requires : tie.Need-five-requires
+five-requires c κs = search needs
 
 answer-requires : tie.Need-answer-requires
 answer-requires c κs = search needs
@@ -22,8 +22,8 @@ answer-requires c κs = search needs
 enum-known-found-2 : tie.Need-enum-known-found-2
 enum-known-found-2 c = search needs
 
-four-requires-2 : tie.Need-four-requires-2
-four-requires-2 c κs = search needs
+five-requires-2 : tie.Need-five-requires-2
+five-requires-2 c κs = search needs
 
 answer-requires-2 : tie.Need-answer-requires-2
 answer-requires-2 c κs = search needs
@@ -40,12 +40,12 @@ answer-requires-3 c κs = search needs
 returns : tie.Need-returns
 returns c =
     result-as _ _ _ _ _ _ _ _ (c .before .before .before .before .before .before .station .ensures) _ (c .before .before .before .before .before .result .ensures)
-    (rw (c .before .before .before .found .given .1, ← c .before .four .ensures) (c .answer .ensures))
+    (rw (c .before .before .before .found .given .1, ← c .before .five .ensures) (c .answer .ensures))
 
 returns-2 : tie.Need-returns-2
 returns-2 c =
     result-as _ _ _ _ _ _ _ _ (c .before .before .before .before .before .before .station .ensures) _ (c .before .before .before .before .before .result .ensures)
-    (rw (c .before .before .before .found2 .given .1, ← c .before .four2 .ensures) (c .answer2 .ensures))
+    (rw (c .before .before .before .found2 .given .1, ← c .before .five2 .ensures) (c .answer2 .ensures))
 
 returns-3 : tie.Need-returns-3
 returns-3 c =
@@ -59,10 +59,10 @@ vembopu-result-spec =
     station-requires
     result-requires
     enum-known-found
-    four-requires
+    five-requires
     answer-requires
     enum-known-found-2
-    four-requires-2
+    five-requires-2
     answer-requires-2
     enum-known-found-3
     number-requires

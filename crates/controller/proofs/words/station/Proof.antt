@@ -17,9 +17,12 @@ cast-t14 c = search needs
 cast-t17 : tie.Need-cast-t17
 cast-t17 c = search needs
 
+cast-t20 : tie.Need-cast-t20
+cast-t20 c = search needs
+
 returns : tie.Need-returns
 unfolding station-of
 returns c = refl
 
 pub station-spec : {M : Type 1} → statement M
-station-spec = tie.close (tie.spec cast-t8 cast-t11 cast-t14 cast-t17 returns)
+station-spec = tie.close (tie.spec cast-t8 cast-t11 cast-t14 cast-t17 cast-t20 returns)
