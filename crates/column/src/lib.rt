@@ -20,6 +20,18 @@ fn heard(bytes: &[u8], at: usize, n: usize) -> [u8; 32]
     row
 }
 
+// A sender's n bytes to all, 32 at once where there are as many: those beyond its n are of no receiver.
+fn row(bytes: &[u8], at: usize, n: usize) -> [u8; 32]
+    requires { ⌜ (n ≤ 32) × (at + n ≤ length (now bytes)) ⌝ }
+    ensures { λ r. ⌜ Each n r (byte-to (now (bytes .entry)) at) ⌝ }
+{
+    if 32 <= bytes.len() - at {
+        heard(bytes, at, 32)
+    } else {
+        heard(bytes, at, n)
+    }
+}
+
 // 1 where the byte is v.
 fn hit(b: u8, v: u8) -> u8
     ensures { λ r. ⌜ r ≡ hit b v ⌝ }
@@ -116,7 +128,7 @@ pub fn sent_by(line: Line, bytes: &[u8], start: usize, i: u8) -> [u8; 32]
     if i < line.n {
         if line.has_round(start, bytes.len()) {
             let n = line.n as usize;
-            return heard(bytes, start + (i as usize) * n, n);
+            return row(bytes, start + (i as usize) * n, n);
         }
     }
     [0u8; 32]

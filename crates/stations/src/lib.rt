@@ -2,12 +2,13 @@
 // station, and filled all the same: loops of a fixed length are the quickest.
 ghost use lib.ListN.{getD};
 ghost use mathlib.Core.Path.{_≡_};
-ghost use Rattle.line.specs.Ballot.{read-sender};
+ghost use Rattle.line.specs.Ballot.{sender-value, read-king};
 ghost use Rattle.line.specs.Writing.{Each};
 ghost use Rattle.broadcast.specs.Exchange.{z-from, y-from, for-y, grade-of};
 ghost use Rattle.broadcast.specs.Broadcast.{obey};
 ghost use Rattle.broadcast.specs.Station.{told};
 ghost use Rattle.step.specs.Part.{of-part};
+ghost use Rattle.step.specs.Noted.{noted};
 ghost use Rattle.stations.specs.Counts.{votes-for};
 use line::Line;
 use line::ballot;
@@ -29,13 +30,14 @@ pub fn tell(sender: u8, part: Part, value: [u8; 32], z: [u8; 32]) -> [u8; 32]
 
 // Round 1: each station's x, from the sender's byte to it.
 pub fn hear(heard: [u8; 32]) -> [u8; 32]
-    ensures { λ r. ⌜ Each 32 r (λ j. read-sender (getD heard j 0)) ⌝ }
+    ensures { λ r. ⌜ Each 32 r (λ j. sender-value (getD heard j 0)) ⌝ }
 {
     let mut next = [0u8; 32];
     let mut j: u8 = 0;
     while j < 32 {
         let k = j as usize;
-        next[k] = ballot::read_sender(heard[k]);
+        let ballot = ballot::read_sender(heard[k]);
+        next[k] = step::x(ballot);
         j += 1;
     }
     next
@@ -93,13 +95,28 @@ pub fn grade(line: Line, zeros: [u8; 32], ones: [u8; 32]) -> [u8; 32]
 
 // The king's round: each station's value, from the king's byte to it.
 pub fn obey(grade: [u8; 32], y: [u8; 32], heard: [u8; 32]) -> [u8; 32]
-    ensures { λ r. ⌜ Each 32 r (λ j. obey (getD grade j 0) (getD y j 0) (getD heard j 0)) ⌝ }
+    ensures { λ r. ⌜ Each 32 r (λ j. obey (getD grade j 0) (getD y j 0) (read-king (getD heard j 0))) ⌝ }
 {
     let mut next = [0u8; 32];
     let mut j: u8 = 0;
     while j < 32 {
         let k = j as usize;
-        next[k] = step::obey(grade[k], y[k], heard[k]);
+        let ballot = ballot::read_king(heard[k]);
+        next[k] = step::obey(grade[k], y[k], ballot);
+        j += 1;
+    }
+    next
+}
+
+// Each station's count of rounds with a garbled ballot, after a round that has so many for it.
+pub fn note(garbled: [u8; 32], found: [u8; 32]) -> [u8; 32]
+    ensures { λ r. ⌜ Each 32 r (λ j. noted (getD garbled j 0) (getD found j 0)) ⌝ }
+{
+    let mut next = [0u8; 32];
+    let mut j: u8 = 0;
+    while j < 32 {
+        let k = j as usize;
+        next[k] = step::noted(garbled[k], found[k]);
         j += 1;
     }
     next

@@ -17,18 +17,18 @@ has-round-requires c κs = search needs
 cast-n : tie.Need-cast-n
 cast-n c = search needs
 
-mul-heard : tie.Need-mul-heard
-mul-heard c = product-fits {p = 255} {q = 255} (omega arith) (omega arith) tt
+mul-row : tie.Need-mul-row
+mul-row c = product-fits {p = 255} {q = 255} (omega arith) (omega arith) tt
 
-add-heard : tie.Need-add-heard
-add-heard c =
+add-row : tie.Need-add-row
+add-row c =
     let h = c .before in
     let g = h .before .before .before .before .before .args in
     let room = round-means (g .line .n) (g .start) (length (g .bytes .now)) (sym (h .before .has-round .ensures) ∙ h .if2 .taken) in
     omega (arith, room .1, row-within (g .i) (g .line .n) (g .line .n) (h .before .before .if1 .taken))
 
-heard-requires : tie.Need-heard-requires
-heard-requires c κs =
+row-requires : tie.Need-row-requires
+row-requires c κs =
     let h = c .before in
     let g = h .before .before .before .before .before .args in
     let room = round-means (g .line .n) (g .start) (length (g .bytes .now)) (sym (h .before .has-round .ensures) ∙ h .if2 .taken) in
@@ -39,7 +39,7 @@ unfolding Each byte-to column
 returns c =
     let h = c .before .before in
     let g = h .before .before .before .before .before .args in
-    λ j l. c .heard .ensures j l
+    λ j l. c .row .ensures j l
     ∙ sym (sent-there (g .line .n) (g .bytes .now) (g .start) (g .i) (h .before .before .if1 .taken) (sym (h .before .has-round .ensures) ∙ h .if2 .taken) j)
 
 returns-2 : tie.Need-returns-2
@@ -58,9 +58,9 @@ sent-by-spec =
     (tie.spec
     has-round-requires
     cast-n
-    mul-heard
-    add-heard
-    heard-requires
+    mul-row
+    add-row
+    row-requires
     returns
     returns-2
     returns-3)

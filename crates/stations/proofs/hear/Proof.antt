@@ -2,16 +2,16 @@
 use borrow.Author.Needs.{needs}
 use native.Mathlib.Omega.{arith}
 use Prim.Native.Nat.{_≤_, _-_}
-use mathlib.Core.Path.{_≡_, refl}
+use mathlib.Core.Path.{_≡_, refl, ap, _∙_}
 use lib.ListN.{length, getD, length-set}
 use Rattle.line.specs.Writing.{Each}
 use Rattle.line.proofs.WritingLaws.{each-none, each-turn}
-use Rattle.line.specs.Ballot.{read-sender}
+use Rattle.line.specs.Ballot.{sender-value, bit-or}
 use Rattle.stations.proofs.hear.Statement.{statement}
 use Rattle.stations.proofs.hear.Tie as tie
 
 abbrev Inv-loop : tie.InvT-loop
-Inv-loop heard next₀ j₀ next j = (j ≤ 32) × (length next ≡ 32) × Each j next (λ k. read-sender (getD heard k 0))
+Inv-loop heard next₀ j₀ next j = (j ≤ 32) × (length next ≡ 32) × Each j next (λ k. sender-value (getD heard k 0))
 
 abbrev μ-loop : tie.MeasureT-loop
 μ-loop heard next₀ j₀ next j = 32 - j
@@ -28,6 +28,9 @@ array-read-read-sender c = search needs
 read-sender-requires : tie.Need-read-sender-requires Inv-loop μ-loop
 read-sender-requires c κs = search needs
 
+x-requires : tie.Need-x-requires Inv-loop μ-loop
+x-requires c κs = search needs
+
 array-write-next : tie.Need-array-write-next Inv-loop μ-loop
 array-write-next c = search needs
 
@@ -38,9 +41,10 @@ loop-less : tie.Need-loop-less Inv-loop μ-loop
 loop-less c = search needs
 
 loop-again : tie.Need-loop-again Inv-loop μ-loop
+unfolding sender-value
 loop-again c =
-    let a = c .before .before in
-    (omega arith, simp length-set (a .loop .inv .1), each-turn (a .loop .next) _ (a .loop .j) _ (omega (arith, a .loop .inv .1)) (a .loop .inv .2) (c .read-sender .ensures))
+    let a = c .before .before .before in
+    (omega arith, simp length-set (a .loop .inv .1), each-turn (a .loop .next) _ (a .loop .j) _ (omega (arith, a .loop .inv .1)) (a .loop .inv .2) (c .x .ensures ∙ ap (bit-or 0) (c .before .read-sender .ensures)))
 
 returns : tie.Need-returns Inv-loop μ-loop
 returns c =
@@ -58,6 +62,7 @@ hear-spec =
     cast-k
     array-read-read-sender
     read-sender-requires
+    x-requires
     array-write-next
     add-j
     loop-less
