@@ -13,7 +13,7 @@ use Rattle.line.specs.Ballot.{silence}
 use Rattle.broadcast.specs.Exchange.{Row, flag-of}
 use Rattle.broadcast.specs.Broadcast.{Part, from-sender, first-of, second-of, from-king, part, speaks}
 use Rattle.broadcast.specs.Garbled.{some-garbled}
-use Rattle.broadcast.specs.Station.{Setup, State, running, done, opened, held, told, ballot, next, moved, counted, taken, advance, result, at, after}
+use Rattle.broadcast.specs.Station.{Setup, State, running, done, opened, held, told, ballot, next, moved, next-count, taken, advance, result, at, after}
 use Rattle.broadcast.specs.Theorems.{DoneAfter, ValueWithoutEffect, SameButCount, CountWithoutEffect}
 use Rattle.line.proofs.BallotLaws.{sender-value-bit}
 use Rattle.broadcast.proofs.TallyLaws.{z-bound, y-bit, grade-bound, obey-bit}
@@ -102,7 +102,7 @@ module _ (c : Setup) (v : ℕ) (rows : ℕ → List ℕ) where
 
   -- the count is that of the rows
   pub after-count : (m : ℕ) → after c v rows m .garbled ≡ count m (λ k. some-garbled (c .n) (c .sender-from-0) (part (suc k)) (at (rows (suc k))))
-  unfolding after opened advance taken counted count
+  unfolding after opened advance taken next-count count
   after-count zero = refl
   after-count (suc m) = moved-count c (after c v rows m) (at (rows (suc m))) _ _ ∙ rw (after-round m, after-count m)
 
@@ -175,5 +175,5 @@ pub count-without-effect : (c : Setup) (s s′ : State) (row : ℕ → ℕ) → 
 unfolding advance taken
 count-without-effect c s s′ row h = record {
   ballots = same-told c s s′ h;
-  states = subst (λ (q : Part). SameButCount (advance c s row) (moved c s′ row (counted c (s′ .garbled) row q) q)) (ap part (h .round-is)) (same-moved c s s′ row _ _ h (part (s .round)));
+  states = subst (λ (q : Part). SameButCount (advance c s row) (moved c s′ row (next-count c (s′ .garbled) row q) q)) (ap part (h .round-is)) (same-moved c s s′ row _ _ h (part (s .round)));
 }

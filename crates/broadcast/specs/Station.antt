@@ -58,11 +58,11 @@ moved c s row garbled (second-of p) =
 moved c s row garbled (from-king p) = next s (obey (s .grade) (s .value) (read-king (row p))) (s .z) (s .grade) garbled
 
 -- request 4: "A station counts the rounds in which at least one ballot it expected was garbled"
-unfoldable pub counted : Setup → ℕ → Row → Part → ℕ
-counted c garbled row p = (if some-garbled (c .n) (c .sender-from-0) p row then 1 else 0) + garbled
+unfoldable pub next-count : Setup → ℕ → Row → Part → ℕ
+next-count c garbled row p = (if some-garbled (c .n) (c .sender-from-0) p row then 1 else 0) + garbled
 
 unfoldable pub taken : Setup → State → Row → Part → State
-taken c s row p = moved c s row (counted c (s .garbled) row p) p
+taken c s row p = moved c s row (next-count c (s .garbled) row p) p
 
 unfoldable pub advance : Setup → State → Row → State
 advance c s row = taken c s row (part (s .round))

@@ -19,12 +19,15 @@ use Rattle.line.proofs.LineLaws.{round-means}
 use Rattle.line.proofs.MarksLaws.{marked-above}
 use Rattle.line.proofs.WritingLaws.{zeros}
 use Rattle.broadcast.specs.Broadcast.{speaks}
-use Rattle.broadcast.specs.Garbled.{reading, garbled-ballots}
+use Rattle.broadcast.specs.Broadcast as broadcast
+use Rattle.broadcast.specs.Garbled.{reading, garbled-ballots, some-garbled}
 use Rattle.broadcast.proofs.RowLaws.{garbled-none, garbled-next}
 use Rattle.column.specs.Column.{column, sent-by}
 use Rattle.column.proofs.ColumnLaws.{sent-there}
 use Rattle.step.specs.declared.Part.{Part}
-use Rattle.step.specs.Part.{of-part}
+use Rattle.step.specs.Part.{as-part, of-part}
+use Rattle.step.specs.Noted.{noted}
+use Rattle.step.proofs.StepLaws.{speaks-as, reading-as, noted-low}
 use Rattle.garbled.specs.Found.{from, some-of, Adds, found}
 
 module _ (n senders sender : ℕ) (p : Part) (bytes : List ℕ) (start : ℕ) where
@@ -92,4 +95,35 @@ found-nobody n sender p bytes start j k = zeros 32 j ∙ sym (go (has-round n st
   where
     go : (b : Bool) → (if b then some-of n 0 sender p bytes start n j else 0) ≡ 0
     go true = some-nobody n sender p bytes start n j
+    go false = refl
+
+-- ---- beside what a station counts
+
+-- where those who are not looked at have no garbled ballot, it is found exactly if the row has one
+module _ (n senders sender : ℕ) (q : broadcast.Part) (bytes : List ℕ) (start j : ℕ) (row : ℕ → ℕ) (row-is : (k : ℕ) → k < n → column bytes start n j k ≡ row k)
+    (quiet : (k : ℕ) → k < n → marked senders k ≡ false → speaks sender q k ≡ true → is-garbled (reading q (row k)) ≡ false) where
+  same-ballot : (k : ℕ) → k < n
+      → ((marked senders k && speaks sender (of-part (as-part q)) k) && is-garbled (reading (of-part (as-part q)) (column bytes start n j k)))
+      ≡ (speaks sender q k && is-garbled (reading q (row k)))
+  same-ballot k h =
+      rw (speaks-as sender k q, reading-as (column bytes start n j k) q, row-is k h) (go (marked senders k) (speaks sender q k) refl refl)
+    where
+      go : (a b : Bool) → marked senders k ≡ a → speaks sender q k ≡ b
+          → ((a && b) && is-garbled (reading q (row k))) ≡ (b && is-garbled (reading q (row k)))
+      go true b e f = refl
+      go false true e f = sym (quiet k h e f)
+      go false false e f = refl
+
+  pub found-row : has-round n start (length bytes) ≡ true → found n senders sender (as-part q) bytes start j ≡ (if some-garbled n sender q row then 1 else 0)
+  unfolding some-of some-garbled garbled-ballots from
+  found-row room =
+      found-there n senders sender (as-part q) bytes start room j
+      ∙ ap (λ (k : ℕ). if ltb 0 k then 1 else 0) (count-same n _ (λ k. speaks sender q k && is-garbled (reading q (row k))) same-ballot)
+
+-- and then a station's count is what it counts, below 255
+pub noted-row : (garbled found : ℕ) (b : Bool) → garbled < 255 → found ≡ (if b then 1 else 0) → noted garbled found ≡ (if b then 1 else 0) + garbled
+noted-row garbled found b h e = noted-low garbled found h ∙ rw e (go b)
+  where
+    go : (c : Bool) → (if ltb 0 (if c then 1 else 0) then 1 else 0) + garbled ≡ (if c then 1 else 0) + garbled
+    go true = refl
     go false = refl

@@ -9,7 +9,7 @@ use lib.Dec.{eqb}
 use borrow.Author.Tests.{ltb-true, lt-ltb, lt-leb}
 use lib.ListN.{length, getD, replicate, getD-replicate}
 use Rattle.line.specs.Count.{if_then_else_, count}
-use Rattle.line.specs.Ballot.{blank}
+use Rattle.line.specs.Ballot.{blank, is-garbled}
 use Rattle.line.proofs.CountLaws.{le-or-lt}
 use Rattle.line.specs.Line.{Fits, rounds, has-round}
 use Rattle.line.proofs.WritingLaws.{each-fewer}
@@ -21,11 +21,16 @@ use Rattle.line.specs.Writing.{Each}
 use Rattle.broadcast.specs.Bytes.{tabulate}
 use Rattle.broadcast.proofs.BytesLaws.{getD-tabulate}
 use Rattle.broadcast.specs.Broadcast as broadcast
-use Rattle.broadcast.specs.Station.{Setup, State, opened, ballot, taken, advance, at, after}
+use Rattle.broadcast.specs.Garbled.{reading, some-garbled}
+use Rattle.broadcast.specs.Station.{Setup, State, opened, ballot, moved, next-count, taken, advance, at, after}
 use Rattle.broadcast.proofs.RowLaws.{seconds-same, z-same, y-same}
+use Rattle.broadcast.proofs.RoundLaws.{after-count-le}
 use Rattle.broadcast.proofs.PartLaws.{part-sender, part-first, part-second, part-king, first-is, by-parts}
 use Rattle.step.specs.Part.{as-part}
-use Rattle.step.proofs.StepLaws.{told-as, taken-as}
+use Rattle.step.specs.Noted.{noted}
+use Rattle.step.proofs.StepLaws.{told-as, moved-as}
+use Rattle.garbled.specs.Found.{found}
+use Rattle.garbled.proofs.FoundLaws.{found-row, noted-row}
 use Rattle.step.specs.declared.Part.{Part}
 use Rattle.post.specs.Posted.{posted}
 use Rattle.line.specs.Marks.{marked}
@@ -37,6 +42,12 @@ use Rattle.round.specs.Round.{setup-at, state-at, said-by, Taken, speake
 -- a line of at most 32 has all its stations in an array
 pub all-of : (n : ℕ) (l : List ℕ) (F : ℕ → ℕ) → n ≤ 32 → Each 32 l F → Each n l F
 all-of n l F h each = each-fewer 32 n l F h each
+
+-- each station's count, from what is found for it
+pub noted-found : (n : ℕ) (l before seen : List ℕ) (F : ℕ → ℕ) → n ≤ 32 → Each 32 l (λ j. noted (getD before j 0) (getD seen j 0)) → Each n seen F
+    → (j : ℕ) → j < n → getD l j 0 ≡ noted (getD before j 0) (F j)
+unfolding Each
+noted-found n l before seen F h each is j k = each j (omega arith) ∙ ap (noted (getD before j 0)) (is j k)
 
 -- the same byte wanted of all
 pub wanted-is : (n v j : ℕ) → n ≤ 32 → j < n → each-of (replicate 32 v) j ≡ v
@@ -91,14 +102,14 @@ module _ (n start : ℕ) (log : List ℕ) (room : has-round n start (length log)
 
 -- ---- a station looks at no more of a row than its n bytes
 
-pub taken-same : (c : Setup) (s : State) (row row′ : Row) → ((k : ℕ) → k < c .n → row k ≡ row′ k)
-    → (p : broadcast.Part) → speaker-within (c .n) (c .sender-from-0) (as-part p) ≡ true → taken c s row p ≡ taken c s row′ p
-unfolding taken
-taken-same c s row row′ same broadcast.from-sender h = rw (same (c .sender-from-0) (ltb-true (c .sender-from-0) (c .n) h))
-taken-same c s row row′ same (broadcast.first-of p) h = rw (z-same (c .n) row row′ same (c .T) (s .value))
-taken-same c s row row′ same (broadcast.second-of p) h =
+moved-same : (c : Setup) (s : State) (row row′ : Row) (g : ℕ) → ((k : ℕ) → k < c .n → row k ≡ row′ k)
+    → (p : broadcast.Part) → speaker-within (c .n) (c .sender-from-0) (as-part p) ≡ true → moved c s row g p ≡ moved c s row′ g p
+unfolding moved
+moved-same c s row row′ g same broadcast.from-sender h = rw (same (c .sender-from-0) (ltb-true (c .sender-from-0) (c .n) h))
+moved-same c s row row′ g same (broadcast.first-of p) h = rw (z-same (c .n) row row′ same (c .T) (s .value))
+moved-same c s row row′ g same (broadcast.second-of p) h =
     rw (y-same (c .n) row row′ same, seconds-same (c .n) row row′ same (y-of (c .n) row′))
-taken-same c s row row′ same (broadcast.from-king p) h = rw (same p (ltb-true p (c .n) h))
+moved-same c s row row′ g same (broadcast.from-king p) h = rw (same p (ltb-true p (c .n) h))
 
 -- ---- a station that is as its automaton is after m rows
 
@@ -109,21 +120,37 @@ module _ (n t T sender : ℕ) (s : Stations) (v m i : ℕ) (rows : ℕ → List 
   says-ballot =
       told-as sender i (getD (s .value) i 0) (getD (s .z) i 0) (broadcast.part (suc m)) ∙ ap (ballot (setup-at n t T sender i)) here
 
+  -- counts what it counts, where who is not looked at sends nothing garbled
+  pub counts-row : (senders : ℕ) (bytes : List ℕ) (start : ℕ) → has-round n start (length bytes) ≡ true → getD (s .garbled) i 0 < 255
+      → ((k : ℕ) → k < n → column bytes start n i k ≡ at (rows (suc m)) k)
+      → ((k : ℕ) → k < n → marked senders k ≡ false → broadcast.speaks sender (broadcast.part (suc m)) k ≡ true
+      → is-garbled (reading (broadcast.part (suc m)) (at (rows (suc m)) k)) ≡ false)
+      → noted (getD (s .garbled) i 0) (found n senders sender (as-part (broadcast.part (suc m))) bytes start i)
+      ≡ next-count (setup-at n t T sender i) (getD (s .garbled) i 0) (at (rows (suc m))) (broadcast.part (suc m))
+  unfolding next-count
+  counts-row senders bytes start room low row-is quiet =
+      noted-row (getD (s .garbled) i 0) _ (some-garbled n sender (broadcast.part (suc m)) (at (rows (suc m)))) low (found-row n senders sender (broadcast.part (suc m)) bytes start i (at (rows (suc m))) row-is quiet room)
+
   -- and takes its row as it does
-  pub takes-row : (bytes : List ℕ) (start : ℕ) (s′ : Stations) → Taken n t T sender (as-part (broadcast.part (suc m))) s bytes start s′ → i < n
-      → speaker-within n sender (as-part (broadcast.part (suc m))) ≡ true → ((k : ℕ) → k < n → column bytes start n i k ≡ at (rows (suc m)) k)
+  pub takes-row : (senders : ℕ) (bytes : List ℕ) (start : ℕ) (s′ : Stations) → Taken n t T sender (as-part (broadcast.part (suc m))) senders s bytes start s′ → i < n
+      → speaker-within n sender (as-part (broadcast.part (suc m))) ≡ true → has-round n start (length bytes) ≡ true → m < 255
+      → ((k : ℕ) → k < n → column bytes start n i k ≡ at (rows (suc m)) k)
+      → ((k : ℕ) → k < n → marked senders k ≡ false → broadcast.speaks sender (broadcast.part (suc m)) k ≡ true
+      → is-garbled (reading (broadcast.part (suc m)) (at (rows (suc m)) k)) ≡ false)
       → state-at s′ (suc m + 1) i ≡ after (setup-at n t T sender i) v rows (suc m)
-  unfolding Taken advance after
-  takes-row bytes start s′ takes h speaker row-is =
+  unfolding Taken advance after taken
+  takes-row senders bytes start s′ takes h speaker room few row-is quiet =
       let c = setup-at n t T sender i in
+      let low : getD (s .garbled) i 0 < 255 = omega (arith, ap (λ (st : State). st .garbled) here, after-count-le c v rows m) in
       takes (suc m) i h
-      ∙ taken-as c (state-at s (suc m) i) (column bytes start n i) (broadcast.part (suc m))
-      ∙ taken-same c (state-at s (suc m) i) (column bytes start n i) (at (rows (suc m))) row-is (broadcast.part (suc m)) speaker
+      ∙ moved-as c (state-at s (suc m) i) (column bytes start n i) _ (broadcast.part (suc m))
+      ∙ moved-same c (state-at s (suc m) i) (column bytes start n i) (at (rows (suc m))) _ row-is (broadcast.part (suc m)) speaker
+      ∙ ap (λ (g : ℕ). moved c (state-at s (suc m) i) (at (rows (suc m))) g (broadcast.part (suc m))) (counts-row senders bytes start room low row-is quiet)
       ∙ ap (λ (st : State). advance c st (at (rows (suc m)))) here
 
 -- before the first
 pub opened-at : (n t T sender v i : ℕ) (rows : ℕ → List ℕ) → i < 32
-    → state-at (record { value = replicate 32 v; z = replicate 32 blank; grade = replicate 32 0 }) 1 i ≡ after (setup-at n t T sender i) v rows 0
+    → state-at (record { value = replicate 32 v; z = replicate 32 blank; grade = replicate 32 0; garbled = replicate 32 0 }) 1 i ≡ after (setup-at n t T sender i) v rows 0
 unfolding after opened
 opened-at n t T sender v i rows h =
     rw (getD-replicate 32 i v 0 h, getD-replicate {A = ℕ} 32 i blank 0 h, getD-replicate {A = ℕ} 32 i 0 0 h)
@@ -139,16 +166,16 @@ speaker-in n t T sender fits within =
 
 -- ---- a round that is taken, and one that isn't
 
-module _ (n t T sender : ℕ) (p : Part) (s : Stations) (log : List ℕ) (start : ℕ) where
+module _ (n t T sender : ℕ) (p : Part) (senders : ℕ) (s : Stations) (log : List ℕ) (start : ℕ) where
   pub can-take : speaker-within n sender p ≡ true → has-round n start (length log) ≡ true → takable n sender p start (length log) ≡ true
   unfolding takable
   can-take a b = rw (a, b)
 
   pub took : takable n sender p start (length log) ≡ true
-      → (s′ : Stations) → Taken n t T sender p s log start s′ → Takes n t T sender p s log start s′
+      → (s′ : Stations) → Taken n t T sender p senders s log start s′ → Takes n t T sender p senders s log start s′
   took e s′ takes = record { takes = λ _. takes; stays = λ q. absurd (true≢false (sym e ∙ q)) }
 
-  pub left : takable n sender p start (length log) ≡ false → Takes n t T sender p s log start s
+  pub left : takable n sender p start (length log) ≡ false → Takes n t T sender p senders s log start s
   left e = record { takes = λ q. absurd (true≢false (sym q ∙ e)); stays = λ _. refl }
 
   pub silent-speaker : speaker-within n sender p ≡ false → takable n sender p start (length log) ≡ false
@@ -214,7 +241,7 @@ module _ (n t T sender : ℕ) (p : Part) (s : Stations) (marks : ℕ) (table : L
 
   -- the round is posted with what was said, and taken
   pub went : playable n sender p start (length log) (length table) ≡ true → (said : List ℕ) → Each n said (said-by sender p s)
-      → (log′ : List ℕ) (s′ : Stations) → log′ ≡ posted n marks said table log start → Taken n t T sender p s log′ start s′
+      → (log′ : List ℕ) (s′ : Stations) → log′ ≡ posted n marks said table log start → Taken n t T sender p marks s log′ start s′
       → Plays n t T sender p s marks table start log log′ s′
   unfolding Each
   went e said each log′ s′ q takes = record {

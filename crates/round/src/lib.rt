@@ -8,31 +8,43 @@ ghost use Rattle.round.specs.Round.{speaker-within, Taken, Takes, Plays}
 use line::Line;
 use step::Part;
 
-// The stations' values, z and grades.
+// The stations' values, z and grades, and how many rounds had a garbled ballot for each.
 pub struct Stations {
     pub value: [u8; 32],
     pub z: [u8; 32],
     pub grade: [u8; 32],
+    pub garbled: [u8; 32],
 }
 
 // What the stations make of the round that the log has from `start` on.
-fn take_all(line: Line, sender: u8, part: Part, s: Stations, log: &[u8], start: usize) -> Stations
+fn take_all(
+    line: Line,
+    sender: u8,
+    part: Part,
+    senders: u32,
+    s: Stations,
+    log: &[u8],
+    start: usize,
+) -> Stations
     requires { ⌜ (has-round (line .n) start (length (now log)) ≡ true) × (speaker-within (line .n) sender part ≡ true) ⌝ }
-    ensures { λ r. ⌜ Taken (line .n) (line .t) (line .upper) sender part s (now (log .entry)) start r ⌝ }
+    ensures { λ r. ⌜ Taken (line .n) (line .t) (line .upper) sender part senders s (now (log .entry)) start r ⌝ }
 {
     let value = s.value;
     let z = s.z;
     let grade = s.grade;
+    let before = s.garbled;
+    let found = garbled::found(line, senders, sender, part, log, start);
+    let garbled = stations::note(before, found);
     match part {
         Part::Sender => {
             let heard = column::sent_by(line, log, start, sender);
             let value = stations::hear(heard);
-            Stations { value, z, grade }
+            Stations { value, z, grade, garbled }
         }
         Part::First => {
             let equal = column::count(line, log, start, &value);
             let z = stations::choose(line, value, equal);
-            Stations { value, z, grade }
+            Stations { value, z, grade, garbled }
         }
         Part::Second => {
             let zero = [0u8; 32];
@@ -41,12 +53,12 @@ fn take_all(line: Line, sender: u8, part: Part, s: Stations, log: &[u8], start: 
             let ones = column::count(line, log, start, &one);
             let value = stations::decide(zeros, ones);
             let grade = stations::grade(line, zeros, ones);
-            Stations { value, z, grade }
+            Stations { value, z, grade, garbled }
         }
         Part::King(king) => {
             let heard = column::sent_by(line, log, start, king);
             let value = stations::obey(grade, value, heard);
-            Stations { value, z, grade }
+            Stations { value, z, grade, garbled }
         }
     }
 }
@@ -63,26 +75,28 @@ fn speaker_within(n: u8, sender: u8, part: Part) -> bool
     }
 }
 
-// The stations after the round that the log has from `start` on. Where the log has no such round, or its speaker is none of the n, they stay as they are.
+// The stations after the round that the log has from `start` on, where the ballots of `senders` are looked at for garbled ones. Where the log has no such round,
+// or its speaker is none of the n, they stay as they are.
 pub fn take(
     line: Line,
     sender: u8,
     part: Part,
+    senders: u32,
     before: Stations,
     log: &[u8],
     start: usize,
 ) -> Stations
-    ensures { λ r. ⌜ Takes (line .n) (line .t) (line .upper) sender part before (now (log .entry)) start r ⌝ }
+    ensures { λ r. ⌜ Takes (line .n) (line .t) (line .upper) sender part senders before (now (log .entry)) start r ⌝ }
 {
     if speaker_within(line.n, sender, part) {
         if line.has_round(start, log.len()) {
-            return take_all(line, sender, part, before, log, start);
+            return take_all(line, sender, part, senders, before, log, start);
         }
     }
     before
 }
 
-// The round whose bytes start at `start`. Where it has no room in the log or the table, or its speaker is none of the n, nothing is written and the stations stay
+// The round whose bytes start at `start`: only a marked station's ballots can be garbled. Where it has no room in the log or the table, or its speaker is none of the n, nothing is written and the stations stay
 // as they are.
 pub fn play(
     line: Line,
@@ -103,7 +117,7 @@ pub fn play(
                 let z = s.z;
                 let said = stations::tell(sender, part, value, z);
                 post::round(line, marks, &said, table, log, start);
-                return take_all(line, sender, part, s, log, start);
+                return take_all(line, sender, part, marks, s, log, start);
             }
         }
     }

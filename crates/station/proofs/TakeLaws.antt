@@ -14,7 +14,7 @@ use Rattle.line.specs.declared.ballot.Ballot.{Ballot}
 use Rattle.broadcast.specs.Exchange.{firsts, seconds, z-from, z-of, y-from, y-of, for-y, grade-of}
 use Rattle.broadcast.specs.Broadcast.{from-sender, first-of, second-of, from-king, part, obey}
 use Rattle.broadcast.specs.Garbled.{some-garbled}
-use Rattle.broadcast.specs.Station.{told, ballot, next, moved, counted, taken, advance, at}
+use Rattle.broadcast.specs.Station.{told, ballot, next, moved, next-count, taken, advance, at}
 use Rattle.broadcast.proofs.TallyLaws.{for-y-is}
 use Rattle.broadcast.proofs.RowLaws.{garbled-of-sender, garbled-of-king}
 use Rattle.step.specs.declared.Part.{Part}
@@ -45,8 +45,8 @@ module _ (s : Station) (row : List ℕ) (r : Station) where
 
   -- the count that follows, by how many of the expected ballots are garbled: no round is beyond 255, and the count is below the round
   noted-is : Ready s row → (p : Part) (k : ℕ) → k ≡ found (s .n) (setup-of s .sender-from-0) p (at row)
-      → noted (s .garbled) k ≡ counted (setup-of s) (s .garbled) (at row) (of-part p)
-  unfolding counted some-garbled found
+      → noted (s .garbled) k ≡ next-count (setup-of s) (s .garbled) (at row) (of-part p)
+  unfolding next-count some-garbled found
   noted-is h p k e =
       let low : s .garbled < 255 = omega (arith, h .sound .garbled-below, h .round-left, h .sound .fits .order, h .sound .fits .room, h .sound .most) in
       noted-low (s .garbled) k low ∙ rw e

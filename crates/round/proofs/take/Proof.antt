@@ -19,8 +19,8 @@ returns : tie.Need-returns
 returns c =
     let h = c .before .before .before .before in
     let g = h .before .before .args in
-    took (g .line .n) (g .line .t) (g .line .upper) (g .sender) (g .part) (g .before) (g .log .now) (g .start)
-    (can-take (g .line .n) (g .line .t) (g .line .upper) (g .sender) (g .part) (g .before) (g .log .now) (g .start)
+    took (g .line .n) (g .line .t) (g .line .upper) (g .sender) (g .part) (g .senders) (g .before) (g .log .now) (g .start)
+    (can-take (g .line .n) (g .line .t) (g .line .upper) (g .sender) (g .part) (g .senders) (g .before) (g .log .now) (g .start)
     (sym (h .speaker-within .ensures) ∙ c .before .before .before .if1 .taken)
     (sym (c .before .before .has-round .ensures) ∙ c .before .if2 .taken))
     _ (c .take-all .ensures)
@@ -28,14 +28,14 @@ returns c =
 returns-2 : tie.Need-returns-2
 returns-2 c =
     let g = c .before .before .before .before .before .args in
-    left (g .line .n) (g .line .t) (g .line .upper) (g .sender) (g .part) (g .before) (g .log .now) (g .start)
-    (no-round (g .line .n) (g .line .t) (g .line .upper) (g .sender) (g .part) (g .before) (g .log .now) (g .start) (sym (c .before .has-round .ensures) ∙ c .if2 .left))
+    left (g .line .n) (g .line .t) (g .line .upper) (g .sender) (g .part) (g .senders) (g .before) (g .log .now) (g .start)
+    (no-round (g .line .n) (g .line .t) (g .line .upper) (g .sender) (g .part) (g .senders) (g .before) (g .log .now) (g .start) (sym (c .before .has-round .ensures) ∙ c .if2 .left))
 
 returns-3 : tie.Need-returns-3
 returns-3 c =
     let g = c .before .before .before .args in
-    left (g .line .n) (g .line .t) (g .line .upper) (g .sender) (g .part) (g .before) (g .log .now) (g .start)
-    (silent-speaker (g .line .n) (g .line .t) (g .line .upper) (g .sender) (g .part) (g .before) (g .log .now) (g .start) (sym (c .before .speaker-within .ensures) ∙ c .if1 .left))
+    left (g .line .n) (g .line .t) (g .line .upper) (g .sender) (g .part) (g .senders) (g .before) (g .log .now) (g .start)
+    (silent-speaker (g .line .n) (g .line .t) (g .line .upper) (g .sender) (g .part) (g .senders) (g .before) (g .log .now) (g .start) (sym (c .before .speaker-within .ensures) ∙ c .if1 .left))
 
 pub take-spec : {M : Type 1} → statement M
 take-spec =
