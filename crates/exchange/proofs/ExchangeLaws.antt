@@ -21,21 +21,27 @@ use Rattle.refusal.specs.declared.cause.Verdict.the-variants.{Accepted}
 use Rattle.refusal.proofs.VerdictLaws.{judged, accepted-false, both-accepted}
 use Rattle.header.proofs.HeaderLaws.{line-sound, length-exact}
 use Rattle.broadcast.specs.Exchange.{Setting, sends, first-row, second-row, y-of, flag-of, z, y, grade}
-use Rattle.broadcast.specs.Broadcast.{speaks}
-use Rattle.broadcast.specs.Station.{State, held, told, next, taken, at}
+use Rattle.broadcast.specs.Broadcast.{first-of, second-of, speaks}
+use Rattle.broadcast.specs.Garbled.{reading, garbled-first, garbled-second, garbled-alone}
+use Rattle.broadcast.specs.Station.{State, held, told, next, moved, at}
 use Rattle.broadcast.specs.Bytes.{setting, exchange-outcomes}
 use Rattle.broadcast.specs.Guarantees.{Good}
+use Rattle.line.specs.Ballot.{is-garbled}
+use Rattle.line.proofs.BallotLaws.{bit-at-first, blank-at-second}
 use Rattle.broadcast.proofs.RowLaws.{seconds-same, z-same, y-same}
+use Rattle.broadcast.proofs.TallyLaws.{z-bound}
+use Rattle.broadcast.proofs.ExchangeLaws.{good-sends}
 use Rattle.broadcast.proofs.Theorems.{definition-6-alone}
 use Rattle.step.specs.declared.Part.the-variants.{First, Second}
 use Rattle.column.specs.Column.{column}
 use Rattle.round.specs.declared.Stations.{Stations}
 use Rattle.round.specs.Round.{said-by, Taken, playable, Plays}
-use Rattle.round.proofs.RoundLaws.{played, log-size, column-is}
+use Rattle.round.proofs.RoundLaws.{played, playable-means, log-size, column-is}
+use Rattle.garbled.proofs.FoundLaws.{found-row, noted-row}
 use Rattle.outcome.specs.Outcome.{outcome-at, reach}
 use Rattle.outcome.proofs.OutcomeLaws.{outcomes-made}
 use Rattle.exchange.specs.Promise.{foreign-inputs, inputs-verdict, exchange-verdict, Exchanged}
-use Rattle.exchange.specs.Rounds.{Ready, Graded}
+use Rattle.exchange.specs.Rounds.{Bits, Ready, Graded}
 
 -- ---- counting foreign inputs
 
@@ -59,6 +65,11 @@ module _ (marks : ℕ) (inputs : List ℕ) where
   foreign-le i = count-le i _
 
 -- ---- the two rounds
+
+-- one round counts at most 1
+small-count : (b : Bool) (k : ℕ) → k ≡ (if b then 1 else 0) → k < 255
+small-count true k e = omega arith
+small-count false k e = omega arith
 
 module _ (n t T marks : ℕ) (inputs table : List ℕ) (most : n ≤ 32) (whole : length table ≡ exchange-length n) where
   abbrev S : Setting
@@ -91,7 +102,8 @@ module _ (n t T marks : ℕ) (inputs table : List ℕ) (most : n ≤ 32) (whole 
       let q : place n r i j ≡ start + i * n + j = place-from-start n r i j ∙ omega (arith, e) in
       rw q
 
-  module _ (s₀ s₁ s₂ : Stations) (l₀ l₁ l₂ : List ℕ) (size : length l₀ ≡ 2048) (entered : Each n (s₀ .value) x)
+  module _ (s₀ s₁ s₂ : Stations) (l₀ l₁ l₂ : List ℕ) (size : length l₀ ≡ 2048) (entered : Each n (s₀ .value) x) (bits : Bits n marks inputs)
+      (none : (j : ℕ) → j < n → getD (s₀ .garbled) j 0 ≡ 0)
       (P : Plays n t T 0 First s₀ marks table 0 l₀ l₁ s₁) (Q : Plays n t T 0 Second s₁ marks table (n * n) l₁ l₂ s₂) where
     first-can : playable n 0 First 0 (length l₀) (length table) ≡ true
     first-can = first-playable (length l₀) size
@@ -106,7 +118,7 @@ module _ (n t T marks : ℕ) (inputs table : List ℕ) (most : n ≤ 32) (whole 
         ∙ rw (from-table 0 1 i j (simp zero-mul), entered i hi)
 
     z-is : (j : ℕ) → j < n → getD (s₁ .z) j 0 ≡ z S 1 x j
-    unfolding Taken taken next z setting Each
+    unfolding Taken moved next z setting Each
     z-is j h =
         ap (λ (st : State). st .z) (P .takes first-can 0 j h)
         ∙ rw (entered j h) (z-same n (column l₁ 0 n j) (first-row S 1 x j) (λ i l. first-is i j l h) T (x j))
@@ -118,13 +130,43 @@ module _ (n t T marks : ℕ) (inputs table : List ℕ) (most : n ≤ 32) (whole 
         ∙ rw (from-table (n * n) 2 i j (simp one-mul), z-is i hi)
 
     value-is : (j : ℕ) → j < n → getD (s₂ .value) j 0 ≡ y S 1 x j
-    unfolding Taken taken next y setting
+    unfolding Taken moved next y setting
     value-is j h =
         ap (λ (st : State). st .value) (Q .takes second-can 0 j h)
         ∙ y-same n (column l₂ (n * n) n j) (second-row S 1 x j) (λ i l. second-is i j l h)
 
+    -- nothing that a good station sends is garbled
+    first-quiet : (j k : ℕ) → k < n → marked marks k ≡ false → speaks 0 (first-of 0) k ≡ true → is-garbled (reading (first-of 0) (first-row S 1 x j k)) ≡ false
+    unfolding reading first-row Bits setting
+    first-quiet j k h good _ = rw (good-sends S 1 k j (x k) good) (bit-at-first (x k) (bits k (h, good)))
+
+    second-quiet : (j k : ℕ) → k < n → marked marks k ≡ false → speaks 0 (second-of 0) k ≡ true
+        → is-garbled (reading (second-of 0) (second-row S 1 x j k)) ≡ false
+    unfolding reading second-row Bits z setting
+    second-quiet j k h good _ = rw (good-sends S 2 k j (z S 1 x k) good) (blank-at-second (z S 1 x k) (z-bound n T (x k) _ (bits k (h, good))))
+
+    first-counted : (j : ℕ) → j < n → getD (s₁ .garbled) j 0 ≡ (if garbled-first S x j then 1 else 0)
+    unfolding Taken moved next setting garbled-first
+    first-counted j h =
+        let room = playable-means n 0 First 0 (length l₀) (length table) first-can .1 in
+        let size₁ = log-size n t T 0 First s₀ marks table 0 l₀ l₁ s₁ first-can P in
+        let f = found-row n marks 0 (first-of 0) l₁ 0 j (first-row S 1 x j) (λ k l. first-is k j l h) (first-quiet j) (rw size₁ room) in
+        ap (λ (st : State). st .garbled) (P .takes first-can 0 j h)
+        ∙ noted-row (getD (s₀ .garbled) j 0) _ (garbled-first S x j) (omega (arith, none j h)) f
+        ∙ omega (arith, none j h)
+
+    second-counted : (j : ℕ) → j < n → getD (s₂ .garbled) j 0 ≡ garbled-alone S x j
+    unfolding Taken moved next setting garbled-second garbled-alone
+    second-counted j h =
+        let room = playable-means n 0 Second (n * n) (length l₁) (length table) second-can .1 in
+        let size₂ = log-size n t T 0 Second s₁ marks table (n * n) l₁ l₂ s₂ second-can Q in
+        let f = found-row n marks 0 (second-of 0) l₂ (n * n) j (second-row S 1 x j) (λ k l. second-is k j l h) (second-quiet j) (rw size₂ room) in
+        ap (λ (st : State). st .garbled) (Q .takes second-can 0 j h)
+        ∙ noted-row (getD (s₁ .garbled) j 0) _ (garbled-second S x j) (small-count (garbled-first S x j) _ (first-counted j h)) f
+        ∙ ap (λ (k : ℕ). (if garbled-second S x j then 1 else 0) + k) (first-counted j h)
+
     pub graded : Graded n t T marks inputs table s₂
-    unfolding Taken taken next y grade setting
+    unfolding Taken moved next y grade setting
     graded = record {
       y-is = value-is;
       grade-is = λ j h.
@@ -132,16 +174,17 @@ module _ (n t T marks : ℕ) (inputs table : List ℕ) (most : n ≤ 32) (whole 
           let y-is = y-same n (column l₂ (n * n) n j) (second-row S 1 x j) (λ i l. second-is i j l h) in
           ap (λ (st : State). st .grade) (Q .takes second-can 0 j h)
           ∙ rw (y-is, same (y-of n (second-row S 1 x j)));
+      garbled-is = second-counted;
     }
 
   -- ---- outcomes
 
   pub outcomes-written : (s : Stations) → Graded n t T marks inputs table s → (l : List ℕ) → length l ≡ outcomes-length n
-      → over l 0 (reach (length l)) (outcome-at (s .value) (s .grade) marks) ≡ exchange-outcomes n t T marks inputs table
+      → over l 0 (reach (length l)) (outcome-at (s .value) (s .grade) (s .garbled) marks) ≡ exchange-outcomes n t T marks inputs table
   unfolding exchange-outcomes setting
   outcomes-written s g l e =
-      outcomes-made S marks (s .value) (s .grade) most (λ i. refl) (y S 1 x) (grade S 1 x) (λ i. flag-of (grade S 1 x i))
-      (λ i h. (g .y-is i (h .0), g .grade-is i (h .0), refl)) l e
+      outcomes-made S marks (s .value) (s .grade) (s .garbled) most (λ i. refl) (y S 1 x) (grade S 1 x) (λ i. flag-of (grade S 1 x i)) (garbled-alone S x)
+      (λ i h. (g .y-is i (h .0), g .grade-is i (h .0), refl, g .garbled-is i (h .0))) l e
 
 -- ---- the judgement
 
@@ -161,7 +204,7 @@ module _ (n t T marks : ℕ) (inputs : List ℕ) where
   -- an accepted exchange is ready
   pub ready : (table-size outcomes-size : ℕ) (answer : Verdict) → answer ≡ exchange-verdict n t T marks inputs table-size outcomes-size
       → answer ≡ Accepted → Ready n t T marks inputs table-size outcomes-size
-  unfolding exchange-verdict
+  unfolding exchange-verdict Bits
   ready table-size outcomes-size answer v accepted =
       let (a, e₂) = both-accepted _ _ (sym v ∙ accepted) in
       let (c, e₃) = both-accepted _ _ e₂ in
@@ -182,6 +225,7 @@ module _ (n t T marks : ℕ) (inputs : List ℕ) where
   -- the promise, from the judgement and the bytes
   pub exchanged : (table before after : List ℕ) (answer : Verdict) → answer ≡ exchange-verdict n t T marks inputs (length table) (length before)
       → after ≡ written answer (exchange-outcomes n t T marks inputs table) before → Exchanged n t T marks inputs table before after answer
+  unfolding Bits
   exchanged table before after answer e q = record {
     judged = judged e;
     outcomes-are = q;

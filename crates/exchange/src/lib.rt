@@ -11,7 +11,7 @@ ghost use Rattle.header.specs.Header.{exact-length};
 ghost use Rattle.broadcast.specs.Bytes.{exchange-outcomes};
 ghost use Rattle.broadcast.specs.Station.{at};
 ghost use Rattle.exchange.specs.Promise.{foreign-inputs, inputs-verdict, exchange-verdict, Exchanged};
-ghost use Rattle.exchange.specs.Rounds.{Ready, Graded};
+ghost use Rattle.exchange.specs.Rounds.{Bits, Ready, Graded};
 use line::Line;
 use line::marks;
 use refusal::cause::Cause;
@@ -92,9 +92,9 @@ fn first_bytes(inputs: &[u8]) -> [u8; 32]
     x
 }
 
-// Both rounds, with a log of their own: each station's y and grade.
+// Both rounds, with a log of their own: each station's y and grade, and how many of the two rounds had a garbled ballot for it.
 fn exchanged(line: Line, marks: u32, inputs: &[u8], table: &[u8]) -> Stations
-    requires { ⌜ (line .n ≤ 32) × (length (now inputs) ≡ line .n) × (length (now table) ≡ exchange-length (line .n)) ⌝ }
+    requires { ⌜ (line .n ≤ 32) × (length (now inputs) ≡ line .n) × (length (now table) ≡ exchange-length (line .n)) × Bits (line .n) marks (now inputs) ⌝ }
     ensures { λ r. ⌜ Graded (line .n) (line .t) (line .upper) marks (now (inputs .entry)) (now (table .entry)) r ⌝ }
 {
     let n = line.n as usize;
@@ -102,7 +102,13 @@ fn exchanged(line: Line, marks: u32, inputs: &[u8], table: &[u8]) -> Stations
     let value = first_bytes(inputs);
     let z = [Line::BLANK; 32];
     let grade = [0u8; 32];
-    let entered = Stations { value, z, grade };
+    let garbled = [0u8; 32];
+    let entered = Stations {
+        value,
+        z,
+        grade,
+        garbled,
+    };
     let chosen = round::play(line, 0, Part::First, entered, marks, table, &mut log, 0);
     round::play(line, 0, Part::Second, chosen, marks, table, &mut log, n * n)
 }
@@ -115,10 +121,11 @@ fn write_outcomes(line: Line, marks: u32, inputs: &[u8], table: &[u8], outcomes:
     let done = exchanged(line, marks, inputs, table);
     let value = done.value;
     let grade = done.grade;
-    outcome::write(value, grade, marks, outcomes);
+    let garbled = done.garbled;
+    outcome::write(value, grade, garbled, marks, outcomes);
 }
 
-// The exchange: an input byte for each station and a ballot table in, three outcome bytes for each station out.
+// The exchange: an input byte for each station and a ballot table in, an outcome for each station out.
 pub fn exchange(line: Line, marks: u32, inputs: &[u8], table: &[u8], outcomes: &mut [u8]) -> Verdict
     ensures { λ r. ⌜ Exchanged (line .n) (line .t) (line .upper) marks (now (inputs .entry)) (now (table .entry)) (now (outcomes .entry)) (now (outcomes .exit)) r ⌝ }
 {

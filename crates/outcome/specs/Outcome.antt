@@ -1,24 +1,24 @@
--- The outcomes' bytes, from the stations' values and grades.
+-- The outcomes' bytes, from the stations' values, grades and counts.
 use Prim.Native.Nat.{ℕ, _/_, _%_}
 use mathlib.Core.Bool.{Bool}
 use mathlib.Core.List.{List}
-use lib.Dec.{eqb, leb}
+use lib.Dec.{leb}
 use lib.ListN.{getD}
 use Rattle.line.specs.Count.{if_then_else_}
+use Rattle.line.specs.Line.{outcome-size, largest-outcomes}
 use Rattle.line.specs.Marks.{marked}
 use Rattle.broadcast.specs.Exchange.{flag-of}
+use Rattle.broadcast.specs.Bytes.{pick}
 
--- "An outcome is three bytes a station: value, grade 0 to 2, flag 0 or 1. A bad station's three bytes are 255.": byte d of the three
-unfoldable pub pick : ℕ → ℕ → ℕ → ℕ
-pick value grade d = if eqb d 0 then value else (if eqb d 1 then grade else flag-of grade)
-
-unfoldable pub outcome-byte : Bool → ℕ → ℕ → ℕ → ℕ
-outcome-byte bad value grade d = if bad then 255 else pick value grade d
+-- byte d of a station's outcome, "255 at a bad one" (request 4)
+unfoldable pub outcome-byte : Bool → ℕ → ℕ → ℕ → ℕ → ℕ
+outcome-byte bad value grade garbled d = if bad then 255 else pick value grade (flag-of grade) garbled d
 
 -- byte k of all
-unfoldable pub outcome-at : List ℕ → List ℕ → ℕ → ℕ → ℕ
-outcome-at value grade marks k = outcome-byte (marked marks (k / 3)) (getD value (k / 3) 0) (getD grade (k / 3) 0) (k % 3)
+unfoldable pub outcome-at : List ℕ → List ℕ → List ℕ → ℕ → ℕ → ℕ
+outcome-at value grade garbled marks k =
+    let i = k / outcome-size in outcome-byte (marked marks i) (getD value i 0) (getD grade i 0) (getD garbled i 0) (k % outcome-size)
 
 -- how many bytes of a buffer of this length are written: those of 32 stations at most
 unfoldable pub reach : ℕ → ℕ
-reach size = if leb size 96 then size else 96
+reach size = if leb size largest-outcomes then size else largest-outcomes

@@ -7,14 +7,14 @@ use native.Mathlib.Omega.{arith}
 use native.Mathlib.Numerals.{add-one}
 use lib.ListN.{length, getD}
 use lib.Seq.{ext-getD}
-use Rattle.line.specs.Line.{from-0, rounds, table-length, outcomes-length, place}
+use Rattle.line.specs.Line.{from-0, rounds, table-length, outcome-size, outcomes-length, place}
 use Rattle.line.specs.Marks.{marked}
 use Rattle.header.specs.Header.{Sound}
 use Rattle.refusal.specs.declared.cause.Verdict.the-variants.{Accepted}
 use Rattle.broadcast.specs.Station.{Setup, ballot, Result, done, at, after}
 use Rattle.broadcast.specs.Bytes.{Run, log, outcomes, setup, column}
 use Rattle.broadcast.specs.Guarantees.{Good}
-use Rattle.broadcast.specs.Theorems.{value-at, grade-at, flag-at, Follows, PutTogether, MakeRun}
+use Rattle.broadcast.specs.Theorems.{value-at, grade-at, flag-at, garbled-at, Follows, PutTogether, MakeRun}
 use Rattle.broadcast.proofs.BytesLaws.{length-tabulate}
 use Rattle.broadcast.proofs.Theorems.{log-bytes, outcome-bytes, station-follows-run, stations-make-run, done-after-rows}
 use Rattle.state.specs.declared.Station.{Station}
@@ -44,11 +44,11 @@ same-next f e p q = cc
 pub same-ballot : (f : Station → Told) {s s′ : Station} {a b : ℕ} → s ≡ s′ → f s ≡ Ballot a → f s′ ≡ Ballot b → a ≡ b
 same-ballot f e p q = cc
 
-pub same-result : (f : Station → StationResult) {s s′ : Station} {a b c a′ b′ c′ : ℕ} → s ≡ s′ → f s ≡ Done a b c → f s′ ≡ Done a′ b′ c′
-    → (a ≡ a′) × (b ≡ b′) × (c ≡ c′)
-same-result f e p q = (cc, cc, cc)
+pub same-result : (f : Station → StationResult) {s s′ : Station} {a b c d a′ b′ c′ d′ : ℕ} → s ≡ s′ → f s ≡ Done a b c d → f s′ ≡ Done a′ b′ c′ d′
+    → (a ≡ a′) × (b ≡ b′) × (c ≡ c′) × (d ≡ d′)
+same-result f e p q = (cc, cc, cc, cc)
 
-pub same-done : {r : Result} {a b c a′ b′ c′ : ℕ} → r ≡ done a b c → r ≡ done a′ b′ c′ → Done a b c ≡ Done a′ b′ c′
+pub same-done : {r : Result} {a b c d a′ b′ c′ d′ : ℕ} → r ≡ done a b c d → r ≡ done a′ b′ c′ d′ → Done a b c d ≡ Done a′ b′ c′ d′
 same-done p q = cc
 
 pub row-whole : (n : ℕ) (bytes : List ℕ) (i r : ℕ) → length (column n bytes i r) ≡ n
@@ -57,10 +57,11 @@ row-whole n bytes i r = length-tabulate n _
 
 -- ---- of a run
 
--- station i's three bytes of these results are the run's
+-- station i's bytes of these results are the run's
 abbrev SameOutcome : Run → List ℕ → ℕ → Type 0
 SameOutcome R results i =
     (value-at results i ≡ value-at (outcomes R) i) × (grade-at results i ≡ grade-at (outcomes R) i) × (flag-at results i ≡ flag-at (outcomes R) i)
+    × (garbled-at results i ≡ garbled-at (outcomes R) i)
 
 module _ (R : Run) (header : Sound (R .n) (R .t) (R .T) (R .sender) (R .value) (R .marks)) (v : ℕ → ℕ) (values : Values R v) where
   abbrev opening : ℕ → calls.Opening
@@ -110,11 +111,12 @@ module _ (R : Run) (header : Sound (R .n) (R .t) (R .T) (R .sender) (R .value) (
         done = row .done ∙ rw (its-setup i) (same-done (done-after-rows (setup R i) (v i) rows .done-after) (follows i g .done-after));
       }
 
-  bad-outcome : (i d : ℕ) → i < R .n → d < 3 → marked (R .marks) i ≡ true → at (outcomes R) (3 * i + d) ≡ 255
-  bad-outcome i zero h l e = let z : 3 * i + 0 ≡ 3 * i = omega arith in rw z (outcome-bytes R .marked-value i h e)
+  bad-outcome : (i d : ℕ) → i < R .n → d < outcome-size → marked (R .marks) i ≡ true → at (outcomes R) (outcome-size * i + d) ≡ 255
+  bad-outcome i zero h l e = let z : outcome-size * i + 0 ≡ outcome-size * i = omega arith in rw z (outcome-bytes R .marked-value i h e)
   bad-outcome i (suc zero) h l e = outcome-bytes R .marked-grade i h e
   bad-outcome i (suc (suc zero)) h l e = outcome-bytes R .marked-flag i h e
-  bad-outcome i (suc (suc (suc d))) h l e = absurd (omega arith)
+  bad-outcome i (suc (suc (suc zero))) h l e = outcome-bytes R .marked-count i h e
+  bad-outcome i (suc (suc (suc (suc d)))) h l e = absurd (omega arith)
 
   make-run : MakeRun R v
   make-run =
@@ -182,15 +184,16 @@ module _ (R : Run) (header : Sound (R .n) (R .t) (R .T) (R .sender) (R .value) (
     its-good : (i : ℕ) → Good (R .n) (marked (R .marks)) i → SameOutcome R results i
     its-good = good-outcome bytes results (P .good) (P .log-size) (P .bad-ballots)
 
-    outcome-same : (i d : ℕ) → i < R .n → d < 3 → at results (3 * i + d) ≡ at (outcomes R) (3 * i + d)
+    outcome-same : (i d : ℕ) → i < R .n → d < outcome-size → at results (outcome-size * i + d) ≡ at (outcomes R) (outcome-size * i + d)
     outcome-same i d h l = go (marked (R .marks) i) refl d l
       where
-        go : (b : Bool) → marked (R .marks) i ≡ b → (d : ℕ) → d < 3 → at results (3 * i + d) ≡ at (outcomes R) (3 * i + d)
+        go : (b : Bool) → marked (R .marks) i ≡ b → (d : ℕ) → d < outcome-size → at results (outcome-size * i + d) ≡ at (outcomes R) (outcome-size * i + d)
         go true e d l = P .bad-outcomes i d h l e ∙ sym (bad-outcome i d h l e)
-        go false e zero l = let z : 3 * i + 0 ≡ 3 * i = omega arith in rw z (its-good i (h, e) .0)
+        go false e zero l = let z : outcome-size * i + 0 ≡ outcome-size * i = omega arith in rw z (its-good i (h, e) .0)
         go false e (suc zero) l = its-good i (h, e) .1
         go false e (suc (suc zero)) l = its-good i (h, e) .2
-        go false e (suc (suc (suc d))) l = absurd (omega arith)
+        go false e (suc (suc (suc zero))) l = its-good i (h, e) .3
+        go false e (suc (suc (suc (suc d)))) l = absurd (omega arith)
 
     its-outcomes : results ≡ outcomes R
     unfolding at
@@ -199,8 +202,8 @@ module _ (R : Run) (header : Sound (R .n) (R .t) (R .T) (R .sender) (R .value) (
         each : (k : ℕ) → k < length results → getD results k 0 ≡ getD (outcomes R) k 0
         each k h =
             let b : k < outcomes-length (R .n) = rw (P .outcomes-size) at h in
-            let d : 3 * (k / 3) + k % 3 ≡ k = omega arith in
-            rw d at (outcome-same (k / 3) (k % 3) (omega arith) (omega arith))
+            let d : outcome-size * (k / outcome-size) + k % outcome-size ≡ k = omega arith in
+            rw d at (outcome-same (k / outcome-size) (k % outcome-size) (omega arith) (omega arith))
 
   pub single-stations : SingleStations R v (log R) (outcomes R)
   single-stations = record { singly = made; together = λ l o P. (its-log l o P, its-outcomes l o P) }

@@ -11,30 +11,32 @@ use native.Mathlib.Nat.{mul-assoc, zero-mul, suc-mul, div-add-mod', div-lt-iff-l
 use lib.ListN.{length, getD, replicate}
 use lib.Seq.{ext-getD}
 use Rattle.line.specs.Count.{if_then_else_}
-use Rattle.line.specs.Line.{from-0, rounds, table-length, outcomes-length, place}
+use Rattle.line.specs.Line.{from-0, rounds, table-length, outcomes-length, place, has-round}
+use Rattle.line.specs.Ballot.{is-garbled}
 use Rattle.line.specs.Marks.{marked}
 use Rattle.line.specs.Writing.{over}
 use Rattle.line.proofs.CountLaws.{le-or-lt}
 use Rattle.line.proofs.LineLaws.{table-bound, round-within, round-there}
 use Rattle.header.specs.Header.{Sound}
-use Rattle.broadcast.specs.Broadcast.{part, value-of, final-grade, final-flag}
+use Rattle.broadcast.specs.Broadcast.{part, speaks, value-of, final-grade, final-flag}
+use Rattle.broadcast.specs.Garbled.{reading, garbled-rounds}
 use Rattle.broadcast.specs.Station.{State, ballot, Result, done, at, after}
 use Rattle.broadcast.specs.Bytes.{setting, setting-of, Run, log, outcomes, setup, column}
 use Rattle.broadcast.specs.Guarantees.{Good}
-use Rattle.broadcast.specs.Theorems.{value-at, grade-at, Follows, PutTogether}
-use Rattle.broadcast.proofs.BytesLaws.{at-tabulate, at-in-round, good-value, good-grade}
-use Rattle.broadcast.proofs.Theorems.{log-bytes, done-after-rows, station-follows-run, stations-make-run}
+use Rattle.broadcast.specs.Theorems.{value-at, grade-at, garbled-at, Follows, PutTogether}
+use Rattle.broadcast.proofs.BytesLaws.{at-tabulate, at-in-round, column-at, good-value, good-grade, good-count}
+use Rattle.broadcast.proofs.Theorems.{log-bytes, good-ballots-readable, done-after-rows, station-follows-run, stations-make-run}
 use Rattle.step.specs.Part.{as-part}
 use Rattle.column.specs.Column as columns
 use Rattle.round.specs.declared.Stations.{Stations}
 use Rattle.round.specs.Round.{state-at, said-by, speaker-within, playable, Plays}
-use Rattle.round.proofs.RoundLaws.{says-ballot, takes-row, opened-at, speaker-in, played, log-size, log-before, column-is}
+use Rattle.round.proofs.RoundLaws.{says-ballot, takes-row, opened-at, speaker-in, played, playable-means, log-size, log-before, column-is}
 use Rattle.outcome.specs.Outcome.{outcome-at, reach}
 use Rattle.outcome.proofs.OutcomeLaws as outcome
 use Rattle.rehearsal.specs.Rounds.{Playable, Played}
 
-same-done : {r : Result} {a b c a′ b′ c′ : ℕ} → r ≡ done a b c → r ≡ done a′ b′ c′ → (a ≡ a′) × (b ≡ b′)
-same-done p q = (cc, cc)
+same-done : {r : Result} {a b c d a′ b′ c′ d′ : ℕ} → r ≡ done a b c d → r ≡ done a′ b′ c′ d′ → (a ≡ a′) × (b ≡ b′) × (d ≡ d′)
+same-done p q = (cc, cc, cc)
 
 module _ (R : Run) (bytes₀ : List ℕ) (ready : Playable R bytes₀) where
   header : Sound (R .n) (R .t) (R .T) (R .sender) (R .value) (R .marks)
@@ -114,12 +116,24 @@ module _ (R : Run) (bytes₀ : List ℕ) (ready : Playable R bytes₀) where
     unfolding column
     row-is j h i l = column-sent i j l h ∙ sym (at-tabulate (R .n) _ i l)
 
+    -- in which nothing of a good station is garbled where it should speak
+    quiet : (j : ℕ) → j < R .n → (k : ℕ) → k < R .n → marked (R .marks) k ≡ false → speaks (from-0 (R .sender)) (part (suc m)) k ≡ true
+        → is-garbled (reading (part (suc m)) (at (column (R .n) (log R) j (suc m)) k)) ≡ false
+    quiet j h k l good speaks-k =
+        rw (column-at (R .n) (log R) j (suc m) k l)
+        (good-ballots-readable R (header .value-bit) (suc m) k j (omega arith) left (l, good) h speaks-k)
+
+    there : has-round (R .n) (m * (R .n * R .n)) (length bytes′) ≡ true
+    there =
+        rw (log-size (R .n) (R .t) (R .T) (from-0 (R .sender)) (as-part (part (suc m))) s (R .marks) (R .table) (m * (R .n * R .n)) bytes bytes′ s′ can Q)
+        (playable-means (R .n) (from-0 (R .sender)) (as-part (part (suc m))) (m * (R .n * R .n)) (length bytes) (length (R .table)) can .1)
+
     stepped : (j : ℕ) → j < R .n → marked (R .marks) j ≡ false
         → state-at s′ (suc m + 1) j ≡ after (setup R j) (R .value) (column (R .n) (log R) j) (suc m)
     unfolding setup
     stepped j h g =
         takes-row (R .n) (R .t) (R .T) (from-0 (R .sender)) s (R .value) m j (column (R .n) (log R) j) (here j h g)
-        bytes′ (m * (R .n * R .n)) s′ (Q .takes can) h (speaker (suc m) (omega arith) (omega arith)) (row-is j h)
+        (R .marks) bytes′ (m * (R .n * R .n)) s′ (Q .takes can) h (speaker (suc m) (omega arith) (omega arith)) there (omega (arith, few-rounds)) (row-is j h) (quiet j h)
 
     -- a byte of the round just played
     written : (k : ℕ) → k < R .n * R .n → getD bytes′ (m * (R .n * R .n) + k) 0 ≡ getD (log R) (m * (R .n * R .n) + k) 0
@@ -149,7 +163,7 @@ module _ (R : Run) (bytes₀ : List ℕ) (ready : Playable R bytes₀) where
 
   -- ---- before the first round
 
-  pub opened-played : Played R 0 (record { value = replicate 32 (R .value); z = replicate 32 2; grade = replicate 32 0 }) bytes₀
+  pub opened-played : Played R 0 (record { value = replicate 32 (R .value); z = replicate 32 2; grade = replicate 32 0; garbled = replicate 32 0 }) bytes₀
   unfolding setup
   opened-played = record {
     stations-are = λ i h g.
@@ -169,23 +183,29 @@ module _ (R : Run) (bytes₀ : List ℕ) (ready : Playable R bytes₀) where
     -- a good station is done with its bytes of the outcomes
     its-done : (i : ℕ) → Good (R .n) (marked (R .marks)) i
         → (getD (s .value) i 0 ≡ value-at (outcomes R) i) × (getD (s .grade) i 0 ≡ grade-at (outcomes R) i)
+        × (getD (s .garbled) i 0 ≡ garbled-at (outcomes R) i)
     unfolding setup
     its-done i h =
         let e = P .stations-are i (h .0) (h .1) in
         let d = done-after-rows (setup R i) (R .value) (column (R .n) (log R) i) .done-after in
         let q = same-done d (follows i (h .0) (h .1) .done-after) in
-        (ap (λ (st : State). st .value) e ∙ q .0, ap (λ (st : State). st .grade) e ∙ q .1)
+        (ap (λ (st : State). st .value) e ∙ q .0, ap (λ (st : State). st .grade) e ∙ q .1, ap (λ (st : State). st .garbled) e ∙ q .2)
 
     value-is : (i : ℕ) → Good (R .n) (marked (R .marks)) i → getD (s .value) i 0 ≡ value-of (setting-of R) (from-0 (R .sender)) (R .value) i
     unfolding outcomes setting
-    value-is i h = its-done i h .0 ∙ good-value (setting-of R) _ _ _ i h
+    value-is i h = its-done i h .0 ∙ good-value (setting-of R) _ _ _ _ i h
 
     grade-is : (i : ℕ) → Good (R .n) (marked (R .marks)) i → getD (s .grade) i 0 ≡ final-grade (setting-of R) (from-0 (R .sender)) (R .value) i
     unfolding outcomes setting
-    grade-is i h = its-done i h .1 ∙ good-grade (setting-of R) _ _ _ i h
+    grade-is i h = its-done i h .1 ∙ good-grade (setting-of R) _ _ _ _ i h
+
+    garbled-is : (i : ℕ) → Good (R .n) (marked (R .marks)) i → getD (s .garbled) i 0 ≡ garbled-rounds (setting-of R) (from-0 (R .sender)) (R .value) i
+    unfolding outcomes setting
+    garbled-is i h = its-done i h .2 ∙ good-count (setting-of R) _ _ _ _ i h
 
     pub outcomes-made : (l : List ℕ) → length l ≡ outcomes-length (R .n)
-        → over l 0 (reach (length l)) (outcome-at (s .value) (s .grade) (R .marks)) ≡ outcomes R
+        → over l 0 (reach (length l)) (outcome-at (s .value) (s .grade) (s .garbled) (R .marks)) ≡ outcomes R
     unfolding outcomes setting final-flag
     outcomes-made l size =
-        outcome.outcomes-made (setting-of R) (R .marks) (s .value) (s .grade) (header .most) (λ i. refl) _ _ _ (λ i h. (value-is i h, grade-is i h, refl)) l size
+        outcome.outcomes-made (setting-of R) (R .marks) (s .value) (s .grade) (s .garbled) (header .most) (λ i. refl) _ _ _ _
+        (λ i h. (value-is i h, grade-is i h, refl, garbled-is i h)) l size

@@ -16,7 +16,7 @@ use Rattle.rehearsal.specs.Calls.{Singly, Values}
 use Rattle.rehearsal.specs.Promise.{run-of}
 
 -- A line of bonders: no run table is handed in. `received` is laid out like one: at place n r i j is the byte that station j received from i in round r, at a
--- bad j the one that was sent to it. What a bad station sent is any byte, and may differ from receiver to receiver. `outcomes` has three bytes a station; its
+-- bad j the one that was sent to it. What a bad station sent is any byte, and may differ from receiver to receiver. `outcomes` is laid out like a rehearsal's; its
 -- length and a bad one's bytes may be any.
 pub record Bonders (n t T sender value marks : ℕ) (v : ℕ → ℕ) (received outcomes : List ℕ) : Type 0 where
   -- there is a byte for each round, sender and receiver

@@ -46,7 +46,13 @@ fn all_rounds(
     let value = [value; 32];
     let z = [Line::BLANK; 32];
     let grade = [0u8; 32];
-    let mut stations = Stations { value, z, grade };
+    let garbled = [0u8; 32];
+    let mut stations = Stations {
+        value,
+        z,
+        grade,
+        garbled,
+    };
     let mut r: u8 = 0;
     let mut start: usize = 0;
     while r < last {
@@ -75,7 +81,8 @@ fn run(
     let done = all_rounds(line, sender, value, marks, table, log);
     let value = done.value;
     let grade = done.grade;
-    outcome::write(value, grade, marks, outcomes);
+    let garbled = done.garbled;
+    outcome::write(value, grade, garbled, marks, outcomes);
 }
 
 // The rehearsal of a broadcast by the sender, on a line whose marked stations send what the table has.

@@ -2,6 +2,7 @@
 use borrow.Author.Needs.{needs}
 use mathlib.Core.Path.{refl}
 use Rattle.line.specs.Writing.{Each}
+use Rattle.line.proofs.WritingLaws.{zeros}
 use Rattle.exchange.proofs.ExchangeLaws.{graded}
 use Rattle.exchange.proofs.exchanged.Statement.{statement}
 use Rattle.exchange.proofs.exchanged.Tie as tie
@@ -33,7 +34,7 @@ returns c =
     let s = f .before .before .before .before in
     let g = s .args in
     graded (g .line .n) (g .line .t) (g .line .upper) (g .marks) (g .inputs .now) (g .table .now) (s .pre .0) (s .pre .2) _ _ _ _ _ _ refl
-    (rw (s .pre .1) at (f .first-bytes .ensures)) (c .before .before .before .before .play .ensures) (c .before .play2 .ensures)
+    (rw (s .pre .1) at (f .first-bytes .ensures)) (s .pre .3) (λ j h. zeros 32 j) (c .before .before .before .before .play .ensures) (c .before .play2 .ensures)
 
 pub exchanged-spec : {M : Type 1} → statement M
 exchanged-spec =

@@ -17,8 +17,8 @@ same-length c = search needs
 returns : tie.Need-returns
 returns c =
     let w = c .before .before in
-    let f = w .before .before .before .before in
-    let s = c .before .before .before .before .before .before .before .before .before .before in
+    let f = w .before .before .before .before .before in
+    let s = c .before .before .before .before .before .before .before .before .before .before .before in
     let g = s .args in
     w .write .ensures
     ∙ outcomes-written (g .line .n) (g .line .t) (g .line .upper) (g .marks) (g .inputs .now) (g .table .now) (s .pre .most) (s .pre .table-whole) (f .exchanged .result) (f .exchanged .ensures) _ (s .pre .outcomes-whole)

@@ -12,10 +12,10 @@ use Rattle.outcome.proofs.write.Statement.{statement}
 use Rattle.outcome.proofs.write.Tie as tie
 
 abbrev Inv-loop : tie.InvT-loop
-Inv-loop marks outcomes₀ value grade end k₀ outcomes k = (k ≤ end) × (length outcomes ≡ length outcomes₀) × (outcomes ≡ over outcomes₀ 0 k (outcome-at value grade marks))
+Inv-loop marks outcomes₀ value grade garbled end k₀ outcomes k = (k ≤ end) × (length outcomes ≡ length outcomes₀) × (outcomes ≡ over outcomes₀ 0 k (outcome-at value grade garbled marks))
 
 abbrev μ-loop : tie.MeasureT-loop
-μ-loop marks outcomes₀ value grade end k₀ outcomes k = end - k
+μ-loop marks outcomes₀ value grade garbled end k₀ outcomes k = end - k
 
 reach-requires : tie.Need-reach-requires Inv-loop μ-loop
 reach-requires c κs = search needs
@@ -40,6 +40,12 @@ array-read-outcome-byte c =
 
 array-read-outcome-byte-2 : tie.Need-array-read-outcome-byte-2 Inv-loop μ-loop
 array-read-outcome-byte-2 c =
+    let a = c .before .before in
+    let s = a .before .before .before in
+    omega (arith, a .before .reach .ensures, reach-within (length (s .args .outcomes .now)))
+
+array-read-outcome-byte-3 : tie.Need-array-read-outcome-byte-3 Inv-loop μ-loop
+array-read-outcome-byte-3 c =
     let a = c .before .before in
     let s = a .before .before .before in
     omega (arith, a .before .reach .ensures, reach-within (length (s .args .outcomes .now)))
@@ -86,6 +92,7 @@ write-spec =
     is-marked-requires
     array-read-outcome-byte
     array-read-outcome-byte-2
+    array-read-outcome-byte-3
     outcome-byte-requires
     slice-write-outcomes
     add-k

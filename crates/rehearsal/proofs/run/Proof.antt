@@ -15,7 +15,7 @@ write-requires c κs = search needs
 
 same-length : tie.Need-same-length
 same-length c =
-    let a = c .before .before .before .before .before .before .before .before in
+    let a = c .before .before .before .before .before .before .before .before .before in
     let s = a .before .before .before .before .before in
     a .all-rounds .ensures .log-whole ∙ sym (s .pre .0 .log-whole)
 
@@ -24,7 +24,7 @@ same-length-2 c = ap length (c .before .before .write .ensures) ∙ over-length 
 
 returns : tie.Need-returns
 returns c =
-    let a = c .before .before .before .before .before .before .before .before in
+    let a = c .before .before .before .before .before .before .before .before .before in
     let s = a .before .before .before .before .before in
     let p = a .all-rounds .ensures in
     record {
