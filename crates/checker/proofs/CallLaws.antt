@@ -61,7 +61,7 @@ module _ (L : Logged) (accepted : verdict-of L ≡ Accepted) (i v : ℕ) (h : i 
 
   -- and its end too
   its-end : let s = calls.state-after opening rows (rounds (L .t)) in
-      result (station L i) (state L i v (rounds (L .t))) ≡ done (s .value) (s .grade) (flag-of (s .grade))
+      result (station L i) (state L i v (rounds (L .t))) ≡ done (s .value) (s .grade) (flag-of (s .grade)) (s .garbled)
   unfolding state
   its-end =
       ap (λ (c : Setup). result c (after c v rows (rounds (L .t)))) (sym its-setup)
@@ -98,8 +98,8 @@ module _ (L : Logged) (accepted : verdict-of L ≡ Accepted) (i v : ℕ) (h : i 
           (rw back at (same-ballot ballot-answer (same-station (r - 1) (omega arith)) (S .tells (r - 1) j (omega arith) k) (in-a-row .tells (r - 1) (omega arith))))
           ∙ its-ballot (r - 1);
       outcome =
-          let (x, y, z) = same-result result-answer (same-station (rounds (L .t)) (omega arith)) (S .done) (in-a-row .done) in
-          its-end ∙ rw (x, y, z);
+          let (x, y, z, w) = same-result result-answer (same-station (rounds (L .t)) (omega arith)) (S .done) (in-a-row .done) in
+          its-end ∙ rw (x, y, z, w);
     }
 
 pub keeps-by-calls : Keeps-by-calls

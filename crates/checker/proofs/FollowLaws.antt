@@ -1,7 +1,7 @@
 -- The stations are followed as the rules have it: a round more, and before the first. Assumes nothing.
 use Prim.Native.Nat.{ℕ, suc, _+_, _*_, _≤_, _<_}
 use mathlib.Core.Path.{_≡_, refl, sym, _∙_}
-use mathlib.Core.Bool.{Bool, true, false, _&&_}
+use mathlib.Core.Bool.{Bool, true, false, _&&_, true≢false}
 use mathlib.Core.List.{List}
 use native.Mathlib.Omega.{arith}
 use native.Mathlib.Numerals.{add-one}
@@ -9,8 +9,10 @@ use native.Mathlib.Nat.{zero-mul}
 use lib.ListN.{length, getD, getD-replicate}
 use Rattle.line.specs.Count.{if_then_else_, all}
 use Rattle.line.specs.Line.{from-0, rounds, table-length, place, has-round}
+use Rattle.line.specs.Marks.{all-marks}
 use Rattle.line.specs.Writing.{Each}
 use Rattle.line.proofs.CountLaws.{all-same}
+use Rattle.line.proofs.MarksLaws.{all-marked}
 use Rattle.line.proofs.LineLaws.{table-bound, row-within, round-within, round-there}
 use Rattle.broadcast.specs.Broadcast.{part}
 use Rattle.broadcast.specs.Station.{ballot, at}
@@ -73,14 +75,15 @@ module _ (L : Logged) (C : Checkable L) where
     unfolding column columns.column
     row-is i h k l = sym (at-tabulate (L .n) _ k l ∙ at-in-round (L .log) (L .n) m k i)
 
-    stepped : (s′ : Stations) → Takes (L .n) (L .t) (L .T) (from-0 (L .sender)) (as-part (part (suc m))) (c .stations) (L .log) (m * (L .n * L .n)) s′
+    stepped : (s′ : Stations) → Takes (L .n) (L .t) (L .T) (from-0 (L .sender)) (as-part (part (suc m))) all-marks (c .stations) (L .log) (m * (L .n * L .n)) s′
         → (i : ℕ) → i < L .n → state-at s′ (suc m + 1) i ≡ state L i v (suc m)
     unfolding state station
     stepped s′ Q i h =
         takes-row (L .n) (L .t) (L .T) (from-0 (L .sender)) (c .stations) v m i (column (L .n) (L .log) i) (here i h)
-        (L .log) (m * (L .n * L .n)) s′
-        (Q .takes (can-take (L .n) (L .t) (L .T) (from-0 (L .sender)) (as-part (part (suc m))) (c .stations) (L .log) (m * (L .n * L .n)) (speaker (suc m) (omega arith) (omega arith)) (there m left)))
-        h (speaker (suc m) (omega arith) (omega arith)) (row-is i h)
+        all-marks (L .log) (m * (L .n * L .n)) s′
+        (Q .takes (can-take (L .n) (L .t) (L .T) (from-0 (L .sender)) (as-part (part (suc m))) all-marks (c .stations) (L .log) (m * (L .n * L .n)) (speaker (suc m) (omega arith) (omega arith)) (there m left)))
+        h (speaker (suc m) (omega arith) (omega arith)) (there m left) (omega (arith, few-rounds)) (row-is i h)
+        (λ k l unmarked _. absurd (true≢false (sym (all-marked k (omega (arith, C .most))) ∙ unmarked)))
 
     module _ (said : List ℕ) (says : Each (L .n) said (said-by (from-0 (L .sender)) (as-part (part (suc m))) (c .stations))) where
       said-is : (i : ℕ) → i < L .n → getD said i 0 ≡ ballot (station L i) (state L i v m)
@@ -106,7 +109,7 @@ module _ (L : Logged) (C : Checkable L) where
           ∙ rw (sent-is i h, F .kept-are i h) (both (bytes-are L i v m) (all m (bytes-are L i v)))
 
       pub followed-on : (kept : List ℕ) → Each (L .n) kept (kept-on (L .n) said (L .log) (m * (L .n * L .n)) (c .kept))
-          → (s′ : Stations) → Takes (L .n) (L .t) (L .T) (from-0 (L .sender)) (as-part (part (suc m))) (c .stations) (L .log) (m * (L .n * L .n)) s′
+          → (s′ : Stations) → Takes (L .n) (L .t) (L .T) (from-0 (L .sender)) (as-part (part (suc m))) all-marks (c .stations) (L .log) (m * (L .n * L .n)) s′
           → Followed L v (suc m) (record { stations = s′; kept = kept })
       followed-on kept compared s′ Q = record { stations-are = stepped s′ Q; kept-are = kept-so kept compared }
 
@@ -116,6 +119,6 @@ module _ (L : Logged) (C : Checkable L) where
   unfolding state station all
   opened-follows v c O = record {
     stations-are = λ i h.
-        rw (O .value-is, O .z-is, O .grade-is) (opened-at (L .n) (L .t) (L .T) (from-0 (L .sender)) v i (column (L .n) (L .log) i) (omega (arith, C .most)));
+        rw (O .value-is, O .z-is, O .grade-is, O .garbled-is) (opened-at (L .n) (L .t) (L .T) (from-0 (L .sender)) v i (column (L .n) (L .log) i) (omega (arith, C .most)));
     kept-are = λ i h. rw (O .kept-is) (getD-replicate 32 i 1 0 (omega (arith, C .most)));
   }

@@ -12,7 +12,7 @@ use lib.Arith.{bin-ind, digits-lt, digits-div, digits-mod}
 use borrow.Author.Tests.{leb-true, leb-false, le-leb, lt-leb, eq-eqb}
 use Rattle.line.specs.Count.{if_then_else_, count}
 use Rattle.line.specs.Line.{most-stations}
-use Rattle.line.specs.Marks.{marked, mark-beyond, faults, marks-of}
+use Rattle.line.specs.Marks.{marked, all-marks, mark-beyond, faults, marks-of}
 use Rattle.line.proofs.CountLaws.{count-not, count-more}
 
 -- a bit above all that are 1 is no mark
@@ -139,6 +139,11 @@ pub marks-are : (n : ℕ) (p : ℕ → Bool) (i : ℕ) → i < n → marked (mar
 marks-are n p = tests-same n (marked (marks-of n p)) p (rebuilt n (marks-of n p) (marks-below n p))
 
 -- .. which is to say that no mark stands beyond station n
+-- all 32 stations are marked by all marks
+pub all-marked : (i : ℕ) → i < 32 → marked all-marks i ≡ true
+unfolding marks-of
+all-marked i h = marks-are 32 (λ k. true) i h
+
 pub marks-back : (n marks : ℕ) → mark-beyond n marks ≡ false → marks-of n (marked marks) ≡ marks
 unfolding mark-beyond
 marks-back n marks e = rebuilt n marks (leb-false (2 ^ n) marks e)

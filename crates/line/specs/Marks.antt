@@ -8,6 +8,10 @@ use Rattle.line.specs.Count.{if_then_else_, count}
 unfoldable pub marked : ℕ → ℕ → Bool
 marked marks i = eqb (marks / 2 ^ i % 2) 1
 
+-- the marks of all 32 stations
+abbrev pub all-marks : ℕ
+all-marks = 4294967295
+
 -- f, "f counts the marked stations.": how many of the stations 0 to n - 1 are bad
 abbrev pub faults : ℕ → (ℕ → Bool) → ℕ
 faults n bad = count n bad

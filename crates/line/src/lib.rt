@@ -2,6 +2,7 @@
 ghost use mathlib.Core.Path.{_≡_};
 ghost use Rattle.line.specs.Line.{most-stations, rounds, table-length, has-round, largest-table, exchange-length, outcome-size, outcomes-length, largest-outcomes};
 ghost use Rattle.line.specs.Ballot.{blank, silence};
+ghost use Rattle.line.specs.Marks.{all-marks};
 
 pub mod ballot;
 pub mod marks;
@@ -23,6 +24,9 @@ impl Line {
 
     // The ballot byte silence.
     pub const SILENCE: u8 = 255;
+
+    // Marks of all 32 stations.
+    pub const ALL: u32 = 4294967295;
 
     // The longest run table of any accepted line, in bytes.
     pub const LARGEST_TABLE: usize = 36864;
@@ -80,7 +84,7 @@ impl Line {
 
 // The constants are the definitions' numbers: this holds by its contract alone.
 fn constants_agree()
-    ensures { λ _. do ⌜ ((← ⟦Line::STATIONS⟧ .entry) ≡ most-stations) × ((← ⟦Line::BLANK⟧ .entry) ≡ blank) × ((← ⟦Line::SILENCE⟧ .entry) ≡ silence) ⌝ }
+    ensures { λ _. do ⌜ ((← ⟦Line::STATIONS⟧ .entry) ≡ most-stations) × ((← ⟦Line::BLANK⟧ .entry) ≡ blank) × ((← ⟦Line::SILENCE⟧ .entry) ≡ silence) × ((← ⟦Line::ALL⟧ .entry) ≡ all-marks) ⌝ }
 {}
 
 // The lengths too.

@@ -9,7 +9,7 @@ use native.Mathlib.Nat.{zero-mul}
 use Rattle.line.specs.Line.{rounds}
 use Rattle.line.proofs.LineLaws.{product-fits, next-row}
 use Rattle.checker.specs.Promise.{logged}
-use Rattle.checker.specs.Followed.{first-value, Followed, FollowsOn}
+use Rattle.checker.specs.Followed.{tried-value, Followed, FollowsOn}
 use Rattle.checker.proofs.FollowLaws.{few-rounds, room, small, opened-follows}
 use Rattle.checker.proofs.all_rounds.Statement.{statement}
 use Rattle.checker.proofs.all_rounds.Tie as tie
@@ -17,7 +17,7 @@ use Rattle.checker.proofs.all_rounds.Tie as tie
 abbrev Inv-loop : tie.InvT-loop
 Inv-loop line sender log n size last course₀ r₀ start₀ course r start =
     let L = logged (line .n) (line .t) (line .upper) sender log [] in
-    (r ≤ rounds (line .t)) × (start ≡ r * (line .n * line .n)) × Followed L (first-value L) r course
+    (r ≤ rounds (line .t)) × (start ≡ r * (line .n * line .n)) × Followed L (tried-value L) r course
 
 abbrev μ-loop : tie.MeasureT-loop
 μ-loop line sender log n size last course₀ r₀ start₀ course r start = rounds (line .t) - r
@@ -34,8 +34,8 @@ rounds-requires c κs = search needs
 cast-last : tie.Need-cast-last Inv-loop μ-loop
 cast-last c = omega (arith, c .rounds .ensures, few-rounds _ (c .before .before .before .pre))
 
-first-value-requires : tie.Need-first-value-requires Inv-loop μ-loop
-first-value-requires c κs = search needs
+tried-value-requires : tie.Need-tried-value-requires Inv-loop μ-loop
+tried-value-requires c κs = search needs
 
 opened-requires : tie.Need-opened-requires Inv-loop μ-loop
 opened-requires c κs = search needs
@@ -43,7 +43,7 @@ opened-requires c κs = search needs
 loop-holds : tie.Need-loop-holds Inv-loop μ-loop
 loop-holds c =
     let s = c .before .before .before .before .before in
-    let opened = rw (c .before .first-value .ensures) at (c .opened .ensures) in
+    let opened = rw (c .before .tried-value .ensures) at (c .opened .ensures) in
     (omega arith, omega (arith, zero-mul (s .args .line .n * s .args .line .n)), opened-follows _ (s .pre) _ _ opened)
 
 follow-requires : tie.Need-follow-requires Inv-loop μ-loop
@@ -100,7 +100,7 @@ all-rounds-spec =
     mul-size
     rounds-requires
     cast-last
-    first-value-requires
+    tried-value-requires
     opened-requires
     loop-holds
     follow-requires

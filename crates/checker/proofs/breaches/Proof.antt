@@ -10,11 +10,11 @@ use Rattle.checker.proofs.breaches.Statement.{statement}
 use Rattle.checker.proofs.breaches.Tie as tie
 
 abbrev Inv-loop : tie.InvT-loop
-Inv-loop n outcomes value grade kept marks₀ i₀ marks i =
-    (i ≤ n) × (marks-of n (breaches value grade kept outcomes) ≡ marks * 2 ^ i + marks-of i (breaches value grade kept outcomes))
+Inv-loop n outcomes value grade garbled kept marks₀ i₀ marks i =
+    (i ≤ n) × (marks-of n (breaches value grade garbled kept outcomes) ≡ marks * 2 ^ i + marks-of i (breaches value grade garbled kept outcomes))
 
 abbrev μ-loop : tie.MeasureT-loop
-μ-loop n outcomes value grade kept marks₀ i₀ marks i = i
+μ-loop n outcomes value grade garbled kept marks₀ i₀ marks i = i
 
 loop-holds : tie.Need-loop-holds Inv-loop μ-loop
 loop-holds c = (omega arith, together-none _ _)
@@ -25,28 +25,33 @@ sub-i c = search needs
 array-read-ends-as : tie.Need-array-read-ends-as Inv-loop μ-loop
 array-read-ends-as c =
     let a = c .before in
-    omega (arith, a .loop .inv .0, a .before .before .before .before .before .before .pre .0)
+    omega (arith, a .loop .inv .0, a .before .before .before .before .before .before .before .pre .0)
 
 array-read-ends-as-2 : tie.Need-array-read-ends-as-2 Inv-loop μ-loop
 array-read-ends-as-2 c =
     let a = c .before in
-    omega (arith, a .loop .inv .0, a .before .before .before .before .before .before .pre .0)
+    omega (arith, a .loop .inv .0, a .before .before .before .before .before .before .before .pre .0)
+
+array-read-ends-as-3 : tie.Need-array-read-ends-as-3 Inv-loop μ-loop
+array-read-ends-as-3 c =
+    let a = c .before in
+    omega (arith, a .loop .inv .0, a .before .before .before .before .before .before .before .pre .0)
 
 mul-ends-as : tie.Need-mul-ends-as Inv-loop μ-loop
 mul-ends-as c =
     let a = c .before in
-    omega (arith, a .loop .inv .0, a .before .before .before .before .before .before .pre .0)
+    omega (arith, a .loop .inv .0, a .before .before .before .before .before .before .before .pre .0)
 
 ends-as-requires : tie.Need-ends-as-requires Inv-loop μ-loop
 ends-as-requires c κs =
     let a = c .before in
-    let s = a .before .before .before .before .before .before in
+    let s = a .before .before .before .before .before .before .before in
     omega (arith, a .loop .inv .0, s .pre .1)
 
 array-read-breach : tie.Need-array-read-breach Inv-loop μ-loop
 array-read-breach c =
     let a = c .before .before in
-    omega (arith, a .loop .inv .0, a .before .before .before .before .before .before .pre .0)
+    omega (arith, a .loop .inv .0, a .before .before .before .before .before .before .before .pre .0)
 
 breach-requires : tie.Need-breach-requires Inv-loop μ-loop
 breach-requires c κs = search needs
@@ -55,7 +60,7 @@ add-marks : tie.Need-add-marks Inv-loop μ-loop
 unfolding breaches
 add-marks c =
     let a = c .before .before .before in
-    let s = a .before .before .before .before .before .before in
+    let s = a .before .before .before .before .before .before .before in
     let bit = rw (c .before .ends-as .ensures) at (c .breach .ensures) in
     let step = together-down (s .args .n) _ (a .loop .i) (a .loop .marks) _ (omega arith) bit (a .loop .inv .1) in
     record { fits = together-below (s .args .n) _ (a .loop .i - 1) _ (s .pre .0) step }
@@ -63,7 +68,7 @@ add-marks c =
 mul-marks : tie.Need-mul-marks Inv-loop μ-loop
 mul-marks c =
     let a = c .before .before in
-    let s = a .before .before .before .before .before .before in
+    let s = a .before .before .before .before .before .before .before in
     record { fits = together-twice (s .args .n) _ (a .loop .i) (a .loop .marks) (s .pre .0) (omega arith) (a .loop .inv .1) }
 
 loop-less : tie.Need-loop-less Inv-loop μ-loop
@@ -73,7 +78,7 @@ loop-again : tie.Need-loop-again Inv-loop μ-loop
 unfolding breaches
 loop-again c =
     let a = c .before .before .before in
-    let s = a .before .before .before .before .before .before in
+    let s = a .before .before .before .before .before .before .before in
     let bit = rw (c .before .ends-as .ensures) at (c .breach .ensures) in
     (omega arith, together-down (s .args .n) _ (a .loop .i) (a .loop .marks) _ (omega arith) bit (a .loop .inv .1))
 
@@ -93,6 +98,7 @@ breaches-spec =
     sub-i
     array-read-ends-as
     array-read-ends-as-2
+    array-read-ends-as-3
     mul-ends-as
     ends-as-requires
     mul-marks

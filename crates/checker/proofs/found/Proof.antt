@@ -2,7 +2,7 @@
 use borrow.Author.Needs.{needs}
 use mathlib.Core.Path.{_∙_}
 use Rattle.checker.specs.Promise.{logged}
-use Rattle.checker.specs.Followed.{first-value}
+use Rattle.checker.specs.Followed.{tried-value}
 use Rattle.checker.proofs.MarkLaws.{with-outcomes, broke-is}
 use Rattle.checker.proofs.found.Statement.{statement}
 use Rattle.checker.proofs.found.Tie as tie
@@ -17,7 +17,7 @@ breaches-requires : tie.Need-breaches-requires
 breaches-requires c κs = search needs
 
 returns : tie.Need-returns
-unfolding first-value
+unfolding tried-value
 returns c =
     let g = c .before .before .before .before .before .args in
     let L = logged (g .line .n) (g .line .t) (g .line .upper) (g .sender) (g .log .now) (g .outcomes .now) in

@@ -1,14 +1,14 @@
--- `first_value` meets its contract.
+-- `tried_value` meets its contract.
 use borrow.Author.Needs.{needs}
 use native.Mathlib.Omega.{arith}
 use mathlib.Core.Path.{ap, _∙_}
-use Rattle.line.specs.Ballot.{read-sender}
+use Rattle.line.specs.Ballot.{read-sender, bit-or, sender-value}
 use Rattle.line.proofs.LineLaws.{product-fits}
 use Rattle.broadcast.specs.Station.{at}
-use Rattle.checker.specs.Followed.{first-value}
+use Rattle.checker.specs.Followed.{tried-value}
 use Rattle.checker.proofs.FollowLaws.{first-within, first-place}
-use Rattle.checker.proofs.first_value.Statement.{statement}
-use Rattle.checker.proofs.first_value.Tie as tie
+use Rattle.checker.proofs.tried_value.Statement.{statement}
+use Rattle.checker.proofs.tried_value.Tie as tie
 
 sub-own : tie.Need-sub-own
 sub-own c = c .before .pre .fitting .sender-low
@@ -28,14 +28,17 @@ shared-slice-read-read-sender c = first-within _ (c .before .before .before .pre
 read-sender-requires : tie.Need-read-sender-requires
 read-sender-requires c κs = search needs
 
-returns : tie.Need-returns
-unfolding first-value at
-returns c =
-    let s = c .before .before .before .before in
-    c .read-sender .ensures ∙ ap read-sender (first-place _ (s .pre))
+x-requires : tie.Need-x-requires
+x-requires c κs = search needs
 
-pub first-value-spec : {M : Type 1} → statement M
-first-value-spec =
+returns : tie.Need-returns
+unfolding tried-value sender-value at
+returns c =
+    let s = c .before .before .before .before .before in
+    c .x .ensures ∙ ap (bit-or 0) (c .before .read-sender .ensures ∙ ap read-sender (first-place _ (s .pre)))
+
+pub tried-value-spec : {M : Type 1} → statement M
+tried-value-spec =
     tie.close
     (tie.spec
     sub-own
@@ -44,4 +47,5 @@ first-value-spec =
     mul-read-sender
     shared-slice-read-read-sender
     read-sender-requires
+    x-requires
     returns)
