@@ -7,6 +7,7 @@ use native.Mathlib.Nat.{add-zero}
 use native.Mathlib.Numerals.{add-one}
 use native.Mathlib.Omega.{arith}
 use lib.ListN.{length, getD, length-append}
+use Rattle.line.specs.Line.{outcome-size}
 use Rattle.line.specs.Marks.{marked}
 use Rattle.broadcast.specs.Station.{at}
 use Rattle.layout.specs.declared.Header.{Header}
@@ -25,12 +26,13 @@ pub puts-field : {l₀ l₁ : List ℕ} {a b : ℕ} {x : ℕ} → x < 1000 → P
 puts-field {x = x} h p = rw (decimal-numeral x h) p
 
 module _ (h : Header) (bytes : List ℕ) (i : ℕ) where
-  pub bad-shown : marked (h .marks) i ≡ true → station-line h bytes i ≡ num (i + 1) ∷ dash ∷ dash ∷ dash ∷ []
+  pub bad-shown : marked (h .marks) i ≡ true → station-line h bytes i ≡ num (i + 1) ∷ dash ∷ dash ∷ dash ∷ dash ∷ []
   unfolding station-line
   bad-shown e = rw e
 
   pub good-shown : marked (h .marks) i ≡ false
-      → station-line h bytes i ≡ num (i + 1) ∷ num (getD bytes (3 * i) 0) ∷ num (getD bytes (3 * i + 1) 0) ∷ num (getD bytes (3 * i + 2) 0) ∷ []
+      → station-line h bytes i
+      ≡ num (i + 1) ∷ num (getD bytes (outcome-size * i) 0) ∷ num (getD bytes (outcome-size * i + 1) 0) ∷ num (getD bytes (outcome-size * i + 2) 0) ∷ num (getD bytes (outcome-size * i + 3) 0) ∷ []
   unfolding station-line at
   good-shown e = rw e
 

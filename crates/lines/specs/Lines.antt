@@ -1,5 +1,5 @@
--- The lines of a listing, field by field (document 01, "Runs worked through").
-use Prim.Native.Nat.{ℕ, zero, suc, _+_, _*_}
+-- The lines of a listing, field by field (document 01, "Runs worked through"; document 02, request 4).
+use Prim.Native.Nat.{ℕ, zero, suc, _+_}
 use mathlib.Core.List.{List, [], _∷_}
 use Rattle.line.specs.Count.{if_then_else_}
 use Rattle.line.specs.Line.{rounds, table-length}
@@ -7,8 +7,8 @@ use Rattle.line.specs.Marks.{marked}
 use Rattle.refusal.specs.Cause.{number}
 use Rattle.refusal.specs.declared.cause.Verdict.{Verdict}
 use Rattle.refusal.specs.declared.cause.Verdict.the-variants.{Accepted, Refused}
-use Rattle.broadcast.specs.Station.{at}
 use Rattle.broadcast.specs.Bytes.{Run, outcomes}
+use Rattle.broadcast.specs.Theorems.{value-at, grade-at, flag-at, garbled-at}
 use Rattle.layout.specs.declared.Header.{Header}
 use Rattle.layout.specs.Layout.{header}
 use Rattle.layout.specs.Chain.{Fate}
@@ -26,12 +26,13 @@ pub data Field : Type 0 where
 abbrev pub first-line : Header → List Field
 first-line h = agree ∷ num (h .n) ∷ num (h .t) ∷ num (h .upper) ∷ num (h .sender) ∷ num (rounds (h .t)) ∷ []
 
--- "a line a station: number, value, grade, flag, with `-` three times for a bad one": station i, counted from 0, by the outcome bytes
+-- "a line a station: number, value, grade, flag", and request 4: "the listing gets the count as its last field: [..] its last line has four dashes":
+-- station i, counted from 0, by the outcome bytes
 unfoldable pub station-line : Header → List ℕ → ℕ → List Field
 station-line h bytes i =
     if marked (h .marks) i
-    then num (i + 1) ∷ dash ∷ dash ∷ dash ∷ []
-    else num (i + 1) ∷ num (at bytes (3 * i)) ∷ num (at bytes (3 * i + 1)) ∷ num (at bytes (3 * i + 2)) ∷ []
+    then num (i + 1) ∷ dash ∷ dash ∷ dash ∷ dash ∷ []
+    else num (i + 1) ∷ num (value-at bytes i) ∷ num (grade-at bytes i) ∷ num (flag-at bytes i) ∷ num (garbled-at bytes i) ∷ []
 
 -- the lines of the stations from i on, m of them
 unfoldable pub station-lines : Header → List ℕ → ℕ → ℕ → List (List Field)

@@ -30,21 +30,22 @@ fn first_line(out: &mut [u8], header: Header) -> usize
 
 // The line of a bad station.
 fn bad_line(out: &mut [u8], at: usize, i: u8) -> usize
-    ensures { λ r. ⌜ Puts (now (out .entry)) (now (out .exit)) at (line-text (num i ∷ dash ∷ dash ∷ dash ∷ [])) r ⌝ }
+    ensures { λ r. ⌜ Puts (now (out .entry)) (now (out .exit)) at (line-text (num i ∷ dash ∷ dash ∷ dash ∷ dash ∷ [])) r ⌝ }
 {
     let a = text::number(out, at, i as u64);
-    text::word(out, a, b" - - -\n")
+    text::word(out, a, b" - - - -\n")
 }
 
-// The line of a good station with its value, grade and flag.
-fn good_line(out: &mut [u8], at: usize, i: u8, v: u8, g: u8, f: u8) -> usize
-    ensures { λ r. ⌜ Puts (now (out .entry)) (now (out .exit)) at (line-text (num i ∷ num v ∷ num g ∷ num f ∷ [])) r ⌝ }
+// The line of a good station with its value, grade, flag and count.
+fn good_line(out: &mut [u8], at: usize, i: u8, v: u8, g: u8, f: u8, k: u8) -> usize
+    ensures { λ r. ⌜ Puts (now (out .entry)) (now (out .exit)) at (line-text (num i ∷ num v ∷ num g ∷ num f ∷ num k ∷ [])) r ⌝ }
 {
     let a = text::number(out, at, i as u64);
     let b = text::field(out, a, v as u64);
     let c = text::field(out, b, g as u64);
     let d = text::field(out, c, f as u64);
-    text::byte(out, d, b'\n')
+    let e = text::field(out, d, k as u64);
+    text::byte(out, e, b'\n')
 }
 
 // The line of the station counted i from 0. What the outcomes lack is shown as 0.
@@ -56,11 +57,12 @@ fn station_line(out: &mut [u8], at: usize, header: Header, outcomes: &[u8], i: u
     if marks::is_marked(header.marks, i) {
         return bad_line(out, at, number);
     }
-    let k = 3 * (i as usize);
-    let v = text::at(outcomes, k);
-    let g = text::at(outcomes, k + 1);
-    let f = text::at(outcomes, k + 2);
-    good_line(out, at, number, v, g, f)
+    let first = Line::OUTCOME * (i as usize);
+    let v = text::at(outcomes, first);
+    let g = text::at(outcomes, first + 1);
+    let f = text::at(outcomes, first + 2);
+    let k = text::at(outcomes, first + 3);
+    good_line(out, at, number, v, g, f, k)
 }
 
 // A line for each station.

@@ -53,8 +53,8 @@ fn list_run(header: Header, table: &[u8], log: &mut [u8], text: &mut [u8]) -> us
     requires { ⌜ Readable header (now table) ⌝ }
     ensures { λ r. ⌜ Runs header (now (table .entry)) (now (log .entry)) (now (log .exit)) (now (text .entry)) (now (text .exit)) r ⌝ }
 {
-    let mut outcomes = [0u8; 96];
-    let m = 3 * (header.n as usize);
+    let mut outcomes = [0u8; Line::LARGEST_OUTCOMES];
+    let m = Line::OUTCOME * (header.n as usize);
     list_outcomes(header, table, log, &mut outcomes[..m], text)
 }
 

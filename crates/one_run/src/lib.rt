@@ -28,7 +28,7 @@ fn accepted(h: Header, table: &[u8], lent: u16) {
     let mut log = sevens();
     let a = io::count(lent as isize, &log);
     let mut outcomes = sevens();
-    let b = io::count((3 * (h.n as u16)) as isize, &outcomes);
+    let b = io::count((Line::OUTCOME as u16 * (h.n as u16)) as isize, &outcomes);
     decide(h, table, &mut log[..a], &mut outcomes[..b]);
 }
 

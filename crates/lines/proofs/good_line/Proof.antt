@@ -18,6 +18,9 @@ field-requires-2 c κs = search needs
 field-requires-3 : tie.Need-field-requires-3
 field-requires-3 c κs = search needs
 
+field-requires-4 : tie.Need-field-requires-4
+field-requires-4 c κs = search needs
+
 byte-requires : tie.Need-byte-requires
 byte-requires c κs = search needs
 
@@ -26,11 +29,12 @@ same-length c = search needs
 
 returns : tie.Need-returns
 returns c =
-    let number = puts-number (omega arith) (c .before .before .before .before .before .before .before .before .before .before .before .before .before .before .before .before .before .before .number .ensures) in
-    let value = puts-field (omega arith) (c .before .before .before .before .before .before .before .before .before .before .before .before .before .before .field .ensures) in
-    let grade = puts-field (omega arith) (c .before .before .before .before .before .before .before .before .before .before .field2 .ensures) in
-    let flag = puts-field (omega arith) (c .before .before .before .before .before .before .field3 .ensures) in
-    puts-then number (puts-then value (puts-then grade (puts-then flag (c .before .before .byte .ensures))))
+    let number = puts-number (omega arith) (c .before .before .before .before .before .before .before .before .before .before .before .before .before .before .before .before .before .before .before .before .before .before .number .ensures) in
+    let value = puts-field (omega arith) (c .before .before .before .before .before .before .before .before .before .before .before .before .before .before .before .before .before .before .field .ensures) in
+    let grade = puts-field (omega arith) (c .before .before .before .before .before .before .before .before .before .before .before .before .before .before .field2 .ensures) in
+    let flag = puts-field (omega arith) (c .before .before .before .before .before .before .before .before .before .before .field3 .ensures) in
+    let count = puts-field (omega arith) (c .before .before .before .before .before .before .field4 .ensures) in
+    puts-then number (puts-then value (puts-then grade (puts-then flag (puts-then count (c .before .before .byte .ensures)))))
 
 pub good-line-spec : {M : Type 1} → statement M
 good-line-spec =
@@ -40,6 +44,7 @@ good-line-spec =
     field-requires
     field-requires-2
     field-requires-3
+    field-requires-4
     byte-requires
     same-length
     returns)

@@ -22,8 +22,8 @@ returns c =
     let a = c .before .before .before .before .before .before .before .before .args in
     rw (bad-shown (a .header) (a .outcomes .now) (a .i) (sym (c .before .before .before .before .before .is-marked .ensures) ∙ c .before .before .before .before .if1 .taken)) (c .before .before .bad-line .ensures)
 
-mul-k : tie.Need-mul-k
-mul-k c = search needs
+mul-first : tie.Need-mul-first
+mul-first c = search needs
 
 at-requires : tie.Need-at-requires
 at-requires c κs = search needs
@@ -40,6 +40,12 @@ add-at-2 c = search needs
 at-requires-3 : tie.Need-at-requires-3
 at-requires-3 c κs = search needs
 
+add-at-3 : tie.Need-add-at-3
+add-at-3 c = search needs
+
+at-requires-4 : tie.Need-at-requires-4
+at-requires-4 c κs = search needs
+
 good-line-requires : tie.Need-good-line-requires
 good-line-requires c κs = search needs
 
@@ -48,8 +54,9 @@ same-length-2 c = search needs
 
 returns-2 : tie.Need-returns-2
 returns-2 c =
-    let a = c .before .before .before .before .before .before .before .before .before .before .before .args in
-    rw (good-shown (a .header) (a .outcomes .now) (a .i) (sym (c .before .before .before .before .before .before .before .before .is-marked .ensures) ∙ c .before .before .before .before .before .before .before .if1 .left), ← c .before .before .before .before .before .before .at .ensures, ← c .before .before .before .before .before .at2 .ensures, ← c .before .before .before .before .at3 .ensures) (c .before .before .good-line .ensures)
+    let a = c .before .before .before .before .before .before .before .before .before .before .before .before .args in
+    let t = c .before .before .before .before in
+    rw (good-shown (a .header) (a .outcomes .now) (a .i) (sym (t .before .before .before .before .before .is-marked .ensures) ∙ t .before .before .before .before .if1 .left), ← t .before .before .before .at .ensures, ← t .before .before .at2 .ensures, ← t .before .at3 .ensures, ← t .at4 .ensures) (c .before .before .good-line .ensures)
 
 pub station-line-spec : {M : Type 1} → statement M
 station-line-spec =
@@ -60,12 +67,14 @@ station-line-spec =
     bad-line-requires
     same-length
     returns
-    mul-k
+    mul-first
     at-requires
     add-at
     at-requires-2
     add-at-2
     at-requires-3
+    add-at-3
+    at-requires-4
     good-line-requires
     same-length-2
     returns-2)

@@ -5,6 +5,7 @@ use mathlib.Core.Path.{sym}
 use native.Mathlib.Omega.{arith}
 use lib.ListN.{replicate}
 use lib.Seq.{length-take-le}
+use Rattle.line.specs.Line.{outcome-size, largest-outcomes}
 use Rattle.listing.proofs.list_run.Statement.{statement}
 use Rattle.listing.proofs.list_run.Tie as tie
 
@@ -19,13 +20,13 @@ array-borrow-prefix-outcomes c = search needs
 
 slice-aggregate-list-outcomes : tie.Need-slice-aggregate-list-outcomes
 slice-aggregate-list-outcomes c =
-    let h : 3 * c .before .before .before .before .before .before .args .header .n ≤ 96 = omega (arith, c .before .before .before .before .before .before .pre .sound .most) in
-    sym (length-take-le (3 * c .before .before .before .before .before .before .args .header .n) (replicate 96 0) h)
+    let h : outcome-size * c .before .before .before .before .before .before .args .header .n ≤ largest-outcomes = omega (arith, c .before .before .before .before .before .before .pre .sound .most) in
+    sym (length-take-le (outcome-size * c .before .before .before .before .before .before .args .header .n) (replicate largest-outcomes 0) h)
 
 list-outcomes-requires : tie.Need-list-outcomes-requires
 list-outcomes-requires c κs =
-    let h : 3 * c .before .before .before .before .before .before .before .args .header .n ≤ 96 = omega (arith, c .before .before .before .before .before .before .before .pre .sound .most) in
-    (c .before .before .before .before .before .before .before .pre, length-take-le (3 * c .before .before .before .before .before .before .before .args .header .n) (replicate 96 0) h)
+    let h : outcome-size * c .before .before .before .before .before .before .before .args .header .n ≤ largest-outcomes = omega (arith, c .before .before .before .before .before .before .before .pre .sound .most) in
+    (c .before .before .before .before .before .before .before .pre, length-take-le (outcome-size * c .before .before .before .before .before .before .before .args .header .n) (replicate largest-outcomes 0) h)
 
 same-length : tie.Need-same-length
 same-length c = search needs
