@@ -3,13 +3,14 @@ use mathlib.Core.Path.{refl}
 use Rattle.line.specs.Count.{count}
 use Rattle.line.specs.Line.{place}
 use Rattle.line.specs.Marks.{marked, mark-beyond}
-use Rattle.line.specs.Ballot.{bit-or, read-sender, read-first, read-second, read-king}
+use Rattle.line.specs.Ballot.{bit-round, blank-round, read-sender, read-first, read-second, read-king, sender-value, first-value, second-value, king-value}
 use Rattle.refusal.specs.Cause.{refused-if}
 use Rattle.header.specs.Header.{outside, station-count, exceeded, thresholds, station-number, bit, marks-within, exact-length, line-verdict, header-verdict}
 use Rattle.broadcast.specs.Exchange.{tally, firsts, seconds, z-from, z-of, y-from, y-of, grade-of, flag-of, sends, first-row, z, second-row, y, grade}
-use Rattle.broadcast.specs.Broadcast.{phases, first-round, obey, x-after, y-after, grade-after, value-of, final-grade, final-flag}
+use Rattle.broadcast.specs.Broadcast.{phases, first-round, obey, x-after, y-after, grade-after, value-of, final-grade, final-flag, z-after, part, speaks, spoken, said, sent}
+use Rattle.broadcast.specs.Garbled.{reading, garbled-ballots, some-garbled, received, garbled-in, garbled-rounds}
 use Rattle.broadcast.specs.Station.{at}
-use Rattle.broadcast.specs.Bytes.{tabulate, setting, outcome-byte, outcome-bytes, outcomes}
+use Rattle.broadcast.specs.Bytes.{tabulate, setting, pick, outcome-byte, outcome-bytes, outcomes}
 use Rattle.layout.specs.Layout.{byte, two, four, header, spare, first, records, start, round, from, to, ballot, next, rest}
 use Rattle.layout.specs.Chain.{is-record, after, reached}
 use Rattle.judgement.specs.Judgement.{ill-formed, sheet-form, line-and-length, verdict-to-8, misplaced, record-form, unmarked-sender, same-place, taken-before, duplicate, record-verdict, records-verdict, sheet-verdict}
@@ -31,7 +32,7 @@ _then_ : {A B : Type 0} → A → B → A × B
 a then b = (a, b)
 
 both-hold : All cases × All further
-unfolding count place marked bit-or read-sender read-first read-second read-king refused-if outside station-count exceeded thresholds station-number bit mark-beyond marks-within exact-length line-verdict header-verdict tally firsts seconds z-from z-of y-from y-of grade-of flag-of sends first-row z second-row y grade phases first-round obey x-after y-after grade-after value-of final-grade final-flag at tabulate setting outcome-byte outcome-bytes outcomes byte two four header spare first records start round from to ballot next rest is-record after reached ill-formed sheet-form line-and-length verdict-to-8 misplaced record-form unmarked-sender same-place taken-before duplicate record-verdict records-verdict sheet-verdict place-of filled kind walk fate station-line station-lines verdict lines decimal round-at from-at to-at to-write how-many ranked place-written low high first-index header-bytes eight next-index record-of record-bytes records-bytes sheet rewritten output
+unfolding count place marked bit-round blank-round read-sender read-first read-second read-king sender-value first-value second-value king-value refused-if outside station-count exceeded thresholds station-number bit mark-beyond marks-within exact-length line-verdict header-verdict tally firsts seconds z-from z-of y-from y-of grade-of flag-of sends first-row z second-row y grade phases first-round obey x-after y-after grade-after value-of final-grade final-flag z-after part speaks spoken said sent reading garbled-ballots some-garbled received garbled-in garbled-rounds at tabulate setting pick outcome-byte outcome-bytes outcomes byte two four header spare first records start round from to ballot next rest is-record after reached ill-formed sheet-form line-and-length verdict-to-8 misplaced record-form unmarked-sender same-place taken-before duplicate record-verdict records-verdict sheet-verdict place-of filled kind walk fate station-line station-lines verdict lines decimal round-at from-at to-at to-write how-many ranked place-written low high first-index header-bytes eight next-index record-of record-bytes records-bytes sheet rewritten output
 both-hold = (
   (fate _, refl)
       then (fate _, refl)
@@ -52,6 +53,11 @@ both-hold = (
       then (fate _, refl)
       then tt,
   (fate _, refl)
+      then (fate _, refl)
+      then (fate _, refl)
+      then (fate _, refl)
+      then (fate _, refl)
+      then (fate _, refl)
       then (fate _, refl)
       then (fate _, refl)
       then (fate _, refl)

@@ -1,4 +1,4 @@
--- The cases A to H of document 01, "Runs worked through", as document 02's request 2 leaves them: one table, a row for each sheet.
+-- The cases A to H of document 01, "Runs worked through", as document 02's requests 2 and 4 leave them: one table, a row for each sheet.
 use Prim.Native.Nat.{ℕ}
 use mathlib.Core.List.{List, [], _∷_, _++_}
 use Rattle.cases.specs.Table.{Wanted, prints, writes, accepted, refused-by, Case, head, rec, good, bad, opening}
@@ -6,27 +6,27 @@ use Rattle.cases.specs.Table.{Wanted, prints, writes, accepted, refused-
 abbrev pub case-A : Case
 case-A = record {
   sheet = 4 ∷ 1 ∷ 1 ∷ 1 ∷ 1 ∷ 0 ∷ 0 ∷ 0 ∷ 8 ∷ 0 ∷ 0 ∷ 0 ∷ [];
-  comes-out = prints (opening 4 1 1 1 9 ∷ good 1 1 2 0 ∷ good 2 1 2 0 ∷ good 3 1 2 0 ∷ bad 4 ∷ []);
+  comes-out = prints (opening 4 1 1 1 9 ∷ good 1 1 2 0 0 ∷ good 2 1 2 0 0 ∷ good 3 1 2 0 0 ∷ bad 4 ∷ []);
 }
 
--- "prints, whole": with every space and newline
+-- "prints, whole": with every space and newline. Request 4: "case A's good lines end in a further 0, and its last line has four dashes."
 abbrev pub case-A-whole : Case
 case-A-whole = record {
   sheet = case-A .sheet;
   comes-out =
       writes
       ((97 ∷ 103 ∷ 114 ∷ 101 ∷ 101 ∷ 32 ∷ 52 ∷ 32 ∷ 49 ∷ 32 ∷ 49 ∷ 32 ∷ 49 ∷ 32 ∷ 57 ∷ 10 ∷ [])
-      ++ (49 ∷ 32 ∷ 49 ∷ 32 ∷ 50 ∷ 32 ∷ 48 ∷ 10 ∷ [])
-      ++ (50 ∷ 32 ∷ 49 ∷ 32 ∷ 50 ∷ 32 ∷ 48 ∷ 10 ∷ [])
-      ++ (51 ∷ 32 ∷ 49 ∷ 32 ∷ 50 ∷ 32 ∷ 48 ∷ 10 ∷ [])
-      ++ (52 ∷ 32 ∷ 45 ∷ 32 ∷ 45 ∷ 32 ∷ 45 ∷ 10 ∷ []));
+      ++ (49 ∷ 32 ∷ 49 ∷ 32 ∷ 50 ∷ 32 ∷ 48 ∷ 32 ∷ 48 ∷ 10 ∷ [])
+      ++ (50 ∷ 32 ∷ 49 ∷ 32 ∷ 50 ∷ 32 ∷ 48 ∷ 32 ∷ 48 ∷ 10 ∷ [])
+      ++ (51 ∷ 32 ∷ 49 ∷ 32 ∷ 50 ∷ 32 ∷ 48 ∷ 32 ∷ 48 ∷ 10 ∷ [])
+      ++ (52 ∷ 32 ∷ 45 ∷ 32 ∷ 45 ∷ 32 ∷ 45 ∷ 32 ∷ 45 ∷ 10 ∷ []));
 }
 
 -- "station 4 bad, telling station 1 a one and stations 2 and 3 a zero in round 1, then silent"; request 2: "Case B now ends with value 1, grade 1, flag 1."
 abbrev pub case-B : Case
 case-B = record {
   sheet = head 4 0 1 4 0 1 8 ++ rec 1 4 1 1 2 ++ rec 1 4 2 0 3 ++ rec 1 4 3 0 0;
-  comes-out = prints (opening 4 0 1 4 6 ∷ good 1 1 1 1 ∷ good 2 1 1 1 ∷ good 3 1 1 1 ∷ bad 4 ∷ []);
+  comes-out = prints (opening 4 0 1 4 6 ∷ good 1 1 1 1 0 ∷ good 2 1 1 1 0 ∷ good 3 1 1 1 0 ∷ bad 4 ∷ []);
 }
 
 -- "station 1 bad, sending 0 to station 2 and 1 to station 3 in rounds 1, 2, 3, 5 and 6, else silent"
@@ -39,13 +39,13 @@ case-C = record {
       ++ rec 3 1 2 0 6 ++ rec 3 1 3 1 7
       ++ rec 5 1 2 0 8 ++ rec 5 1 3 1 9
       ++ rec 6 1 2 0 10 ++ rec 6 1 3 1 0;
-  comes-out = prints (opening 3 0 1 1 6 ∷ bad 1 ∷ good 2 0 1 1 ∷ good 3 1 1 1 ∷ []);
+  comes-out = prints (opening 3 0 1 1 6 ∷ bad 1 ∷ good 2 0 1 1 0 ∷ good 3 1 1 1 0 ∷ []);
 }
 
 abbrev pub case-D : Case
-case-D = record { sheet = head 1 0 0 1 0 0 0; comes-out = prints (opening 1 0 0 1 6 ∷ good 1 0 2 0 ∷ []) }
+case-D = record { sheet = head 1 0 0 1 0 0 0; comes-out = prints (opening 1 0 0 1 6 ∷ good 1 0 2 0 0 ∷ []) }
 
--- "Marked bad instead: three dashes."
+-- "Marked bad instead: three dashes.", with request 4 four
 abbrev pub case-D-bad : Case
 case-D-bad = record { sheet = head 1 0 0 1 0 0 1; comes-out = prints (opening 1 0 0 1 6 ∷ bad 1 ∷ []) }
 

@@ -1,7 +1,6 @@
 -- Further sheets, beside document 01's cases A to H: a second table. A comment quotes the sentence that the row shows.
 use Prim.Native.Nat.{ℕ}
 use mathlib.Core.List.{List, [], _∷_, _++_}
-use Rattle.listing.specs.Theorems.{longest-listing}
 use Rattle.cases.specs.Table.{Wanted, prints, writes, is-long, rewritten-as, accepted, refused-by, Case, head, rec, good, bad, opening}
 use Rattle.cases.specs.Cases.{case-B}
 
@@ -11,7 +10,7 @@ use Rattle.cases.specs.Cases.{case-B}
 abbrev pub silent-sender : Case
 silent-sender = record {
   sheet = head 4 1 1 4 1 0 8;
-  comes-out = prints (opening 4 1 1 4 9 ∷ good 1 0 2 0 ∷ good 2 0 2 0 ∷ good 3 0 2 0 ∷ bad 4 ∷ []);
+  comes-out = prints (opening 4 1 1 4 9 ∷ good 1 0 2 0 0 ∷ good 2 0 2 0 0 ∷ good 3 0 2 0 0 ∷ bad 4 ∷ []);
 }
 
 -- request 2, "In the first round of an exchange a byte other than 0 or 1 now counts for neither value": case B with a blank and a garbled ballot to the two
@@ -19,7 +18,7 @@ silent-sender = record {
 abbrev pub neither-value : Case
 neither-value = record {
   sheet = head 4 0 1 4 0 1 8 ++ rec 1 4 1 1 2 ++ rec 1 4 2 0 3 ++ rec 1 4 3 0 4 ++ rec 2 4 2 2 5 ++ rec 2 4 3 128 0;
-  comes-out = case-B .comes-out;
+  comes-out = prints (opening 4 0 1 4 6 ∷ good 1 1 1 1 0 ∷ good 2 1 1 1 1 ∷ good 3 1 1 1 1 ∷ bad 4 ∷ []);
 }
 
 -- request 2, "a king's unreadable ballot leaves a grade 0 station with its own y": stations 2 and 3 enter the first exchange with 0 and 1 and leave it with y 1
@@ -30,7 +29,7 @@ silent-king = record {
       head 3 0 1 1 0 1 1
       ++ rec 1 1 2 0 2 ++ rec 1 1 3 1 3
       ++ rec 2 1 2 1 4 ++ rec 2 1 3 0 0;
-  comes-out = prints (opening 3 0 1 1 6 ∷ bad 1 ∷ good 2 1 1 1 ∷ good 3 1 1 1 ∷ []);
+  comes-out = prints (opening 3 0 1 1 6 ∷ bad 1 ∷ good 2 1 1 1 0 ∷ good 3 1 1 1 0 ∷ []);
 }
 
 -- the same with a blank and a garbled ballot from the king
@@ -41,14 +40,52 @@ unreadable-king = record {
       ++ rec 1 1 2 0 2 ++ rec 1 1 3 1 3
       ++ rec 2 1 2 1 4 ++ rec 2 1 3 0 5
       ++ rec 4 1 2 2 6 ++ rec 4 1 3 128 0;
-  comes-out = silent-king .comes-out;
+  comes-out = prints (opening 3 0 1 1 6 ∷ bad 1 ∷ good 2 1 1 1 1 ∷ good 3 1 1 1 1 ∷ []);
 }
 
 -- "y = 0 if a exceeds b, otherwise y = 1.": in round 6 station 1 has its own zero and a one, as many of each, and ends with 1
 abbrev pub equal-counts : Case
 equal-counts = record {
   sheet = head 2 0 0 1 0 1 2 ++ rec 6 2 1 1 0;
-  comes-out = prints (opening 2 0 0 1 6 ∷ good 1 1 0 1 ∷ bad 2 ∷ []);
+  comes-out = prints (opening 2 0 0 1 6 ∷ good 1 1 0 1 0 ∷ bad 2 ∷ []);
+}
+
+-- ---- garbled ballots (request 4), on a line of three whose station 3 is bad; station 2 is the sender
+
+-- "A byte is garbled if it is not 255 and its round has no meaning for it": 128 in both rounds of the first exchange to station 1, in the first round alone to
+-- station 2, and silence otherwise
+abbrev pub garbled-exchange : Case
+garbled-exchange = record {
+  sheet = head 3 0 1 2 1 1 4 ++ rec 2 3 1 128 2 ++ rec 3 3 1 128 3 ++ rec 2 3 2 128 0;
+  comes-out = prints (opening 3 0 1 2 6 ∷ good 1 1 1 1 2 ∷ good 2 1 1 1 1 ∷ bad 3 ∷ []);
+}
+
+-- "blank is garbled outside the second round of an exchange.": blanks to station 1 in rounds 2 and 5, which count, and to station 2 in rounds 3 and 6, which don't
+abbrev pub garbled-blanks : Case
+garbled-blanks = record {
+  sheet = head 3 0 1 2 1 1 4 ++ rec 2 3 1 2 2 ++ rec 5 3 1 2 3 ++ rec 3 3 2 2 4 ++ rec 6 3 2 2 0;
+  comes-out = prints (opening 3 0 1 2 6 ∷ good 1 1 1 1 2 ∷ good 2 1 1 1 0 ∷ bad 3 ∷ []);
+}
+
+-- "from all in exchange rounds, else from the sender or the king.": garbled bytes of a station that is neither, in rounds 1 and 4, count for nothing
+abbrev pub garbled-bystander : Case
+garbled-bystander = record {
+  sheet = head 3 0 1 2 1 1 4 ++ rec 1 3 1 128 2 ++ rec 4 3 1 128 3 ++ rec 4 3 2 2 0;
+  comes-out = prints (opening 3 0 1 2 6 ∷ good 1 1 1 1 0 ∷ good 2 1 1 1 0 ∷ bad 3 ∷ []);
+}
+
+-- of the sender and of the king they count: station 1 is both, and bad
+abbrev pub garbled-sender-and-king : Case
+garbled-sender-and-king = record {
+  sheet = head 3 0 1 1 0 1 1 ++ rec 1 1 2 128 2 ++ rec 1 1 3 2 3 ++ rec 4 1 2 7 0;
+  comes-out = prints (opening 3 0 1 1 6 ∷ bad 1 ∷ good 2 0 1 1 2 ∷ good 3 0 1 1 1 ∷ []);
+}
+
+-- "the rounds in which at least one ballot": two bad stations' garbled ballots in one round are one round
+abbrev pub garbled-twice : Case
+garbled-twice = record {
+  sheet = head 3 0 1 1 1 1 6 ++ rec 2 2 1 128 2 ++ rec 2 3 1 7 0;
+  comes-out = prints (opening 3 0 1 1 6 ∷ good 1 1 0 1 1 ∷ bad 2 ∷ bad 3 ∷ []);
 }
 
 -- ---- marks in all four bytes: "8–11 the marks, bit i−1 for station i"
@@ -61,7 +98,7 @@ all-but-ten = record {
       prints
       (opening 25 0 12 10 6
       ∷ bad 1 ∷ bad 2 ∷ bad 3 ∷ bad 4 ∷ bad 5 ∷ bad 6 ∷ bad 7 ∷ bad 8
-      ∷ bad 9 ∷ good 10 1 0 1 ∷ bad 11 ∷ bad 12 ∷ bad 13 ∷ bad 14 ∷ bad 15 ∷ bad 16
+      ∷ bad 9 ∷ good 10 1 0 1 0 ∷ bad 11 ∷ bad 12 ∷ bad 13 ∷ bad 14 ∷ bad 15 ∷ bad 16
       ∷ bad 17 ∷ bad 18 ∷ bad 19 ∷ bad 20 ∷ bad 21 ∷ bad 22 ∷ bad 23 ∷ bad 24
       ∷ bad 25 ∷ []);
 }
@@ -72,31 +109,31 @@ four-marked = 32 ∷ 0 ∷ 0 ∷ 1 ∷ 0 ∷ 0 ∷ 1 ∷ 0 ∷ 1 ∷ 2 ∷ 4 ∷
 
 -- ---- text
 
--- "number, value, grade, flag", byte by byte, with numbers of two digits: station 10, the sender, and 11 are good
+-- "number, value, grade, flag" and the count, byte by byte, with numbers of two digits: station 10, the sender, and 11 are good
 abbrev pub two-digits : Case
 two-digits = record {
   sheet = 11 ∷ 2 ∷ 4 ∷ 10 ∷ 1 ∷ 0 ∷ 0 ∷ 0 ∷ 255 ∷ 1 ∷ 0 ∷ 0 ∷ [];
   comes-out =
       writes
       ((97 ∷ 103 ∷ 114 ∷ 101 ∷ 101 ∷ 32 ∷ 49 ∷ 49 ∷ 32 ∷ 50 ∷ 32 ∷ 52 ∷ 32 ∷ 49 ∷ 48 ∷ 32 ∷ 49 ∷ 50 ∷ 10 ∷ [])
-      ++ (49 ∷ 32 ∷ 45 ∷ 32 ∷ 45 ∷ 32 ∷ 45 ∷ 10 ∷ [])
-      ++ (50 ∷ 32 ∷ 45 ∷ 32 ∷ 45 ∷ 32 ∷ 45 ∷ 10 ∷ [])
-      ++ (51 ∷ 32 ∷ 45 ∷ 32 ∷ 45 ∷ 32 ∷ 45 ∷ 10 ∷ [])
-      ++ (52 ∷ 32 ∷ 45 ∷ 32 ∷ 45 ∷ 32 ∷ 45 ∷ 10 ∷ [])
-      ++ (53 ∷ 32 ∷ 45 ∷ 32 ∷ 45 ∷ 32 ∷ 45 ∷ 10 ∷ [])
-      ++ (54 ∷ 32 ∷ 45 ∷ 32 ∷ 45 ∷ 32 ∷ 45 ∷ 10 ∷ [])
-      ++ (55 ∷ 32 ∷ 45 ∷ 32 ∷ 45 ∷ 32 ∷ 45 ∷ 10 ∷ [])
-      ++ (56 ∷ 32 ∷ 45 ∷ 32 ∷ 45 ∷ 32 ∷ 45 ∷ 10 ∷ [])
-      ++ (57 ∷ 32 ∷ 45 ∷ 32 ∷ 45 ∷ 32 ∷ 45 ∷ 10 ∷ [])
-      ++ (49 ∷ 48 ∷ 32 ∷ 49 ∷ 32 ∷ 48 ∷ 32 ∷ 49 ∷ 10 ∷ [])
-      ++ (49 ∷ 49 ∷ 32 ∷ 49 ∷ 32 ∷ 48 ∷ 32 ∷ 49 ∷ 10 ∷ []));
+      ++ (49 ∷ 32 ∷ 45 ∷ 32 ∷ 45 ∷ 32 ∷ 45 ∷ 32 ∷ 45 ∷ 10 ∷ [])
+      ++ (50 ∷ 32 ∷ 45 ∷ 32 ∷ 45 ∷ 32 ∷ 45 ∷ 32 ∷ 45 ∷ 10 ∷ [])
+      ++ (51 ∷ 32 ∷ 45 ∷ 32 ∷ 45 ∷ 32 ∷ 45 ∷ 32 ∷ 45 ∷ 10 ∷ [])
+      ++ (52 ∷ 32 ∷ 45 ∷ 32 ∷ 45 ∷ 32 ∷ 45 ∷ 32 ∷ 45 ∷ 10 ∷ [])
+      ++ (53 ∷ 32 ∷ 45 ∷ 32 ∷ 45 ∷ 32 ∷ 45 ∷ 32 ∷ 45 ∷ 10 ∷ [])
+      ++ (54 ∷ 32 ∷ 45 ∷ 32 ∷ 45 ∷ 32 ∷ 45 ∷ 32 ∷ 45 ∷ 10 ∷ [])
+      ++ (55 ∷ 32 ∷ 45 ∷ 32 ∷ 45 ∷ 32 ∷ 45 ∷ 32 ∷ 45 ∷ 10 ∷ [])
+      ++ (56 ∷ 32 ∷ 45 ∷ 32 ∷ 45 ∷ 32 ∷ 45 ∷ 32 ∷ 45 ∷ 10 ∷ [])
+      ++ (57 ∷ 32 ∷ 45 ∷ 32 ∷ 45 ∷ 32 ∷ 45 ∷ 32 ∷ 45 ∷ 10 ∷ [])
+      ++ (49 ∷ 48 ∷ 32 ∷ 49 ∷ 32 ∷ 48 ∷ 32 ∷ 49 ∷ 32 ∷ 48 ∷ 10 ∷ [])
+      ++ (49 ∷ 49 ∷ 32 ∷ 49 ∷ 32 ∷ 48 ∷ 32 ∷ 49 ∷ 32 ∷ 48 ∷ 10 ∷ []));
 }
 
--- every number that can have two digits has two: the longest listing (`Listing-short` of crate listing). All stations are marked.
-abbrev pub longest : Case
-longest = record {
+-- every number of the first line has two digits, and all stations are marked: a listing of 364 bytes, where 395 is the most (`Listing-short` of crate listing)
+abbrev pub long : Case
+long = record {
   sheet = 32 ∷ 10 ∷ 10 ∷ 32 ∷ 1 ∷ 0 ∷ 0 ∷ 0 ∷ 255 ∷ 255 ∷ 255 ∷ 255 ∷ [];
-  comes-out = is-long longest-listing;
+  comes-out = is-long 364;
 }
 
 -- "A refusal prints the one line `refused` and the number.": refused 12, with its newline
@@ -140,12 +177,17 @@ further =
     ∷ silent-king
     ∷ unreadable-king
     ∷ equal-counts
+    ∷ garbled-exchange
+    ∷ garbled-blanks
+    ∷ garbled-bystander
+    ∷ garbled-sender-and-king
+    ∷ garbled-twice
     ∷ all-but-ten
     -- a ballot of each of the four stations, and one of station 27, which is not marked
     ∷ record { sheet = four-marked ++ rec 1 28 1 1 2 ++ rec 1 19 1 1 3 ++ rec 1 10 1 1 4 ++ rec 1 1 1 1 0; comes-out = accepted }
     ∷ record { sheet = four-marked ++ rec 1 27 1 1 0; comes-out = refused-by 12 }
     ∷ two-digits
-    ∷ longest
+    ∷ long
     -- 4: "sender or own station outside 1 to n"
     ∷ headed 0 1 8 (refused-by 4)
     ∷ headed 5 1 8 (refused-by 4)

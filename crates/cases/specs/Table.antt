@@ -50,12 +50,12 @@ rec round from to ballot next = round ∷ from ∷ to ∷ ballot ∷ next ∷ 0 
 
 -- ---- lines
 
--- a good station's line: number, value, grade, flag
-abbrev pub good : ℕ → ℕ → ℕ → ℕ → List Field
-good i value grade flag = num i ∷ num value ∷ num grade ∷ num flag ∷ []
+-- a good station's line: number, value, grade, flag, count
+abbrev pub good : ℕ → ℕ → ℕ → ℕ → ℕ → List Field
+good i value grade flag garbled = num i ∷ num value ∷ num grade ∷ num flag ∷ num garbled ∷ []
 
 abbrev pub bad : ℕ → List Field
-bad i = num i ∷ dash ∷ dash ∷ dash ∷ []
+bad i = num i ∷ dash ∷ dash ∷ dash ∷ dash ∷ []
 
 -- the first line: n, t, T, sender, R
 abbrev pub opening : ℕ → ℕ → ℕ → ℕ → ℕ → List Field

@@ -1,5 +1,5 @@
 // The calls on whole lines for other languages: numbers and byte slices, and the documents' number of the refusal as the answer, 0 where nothing is
-// refused; of the writer's calls and the checker it stands in the upper 32 bits, above what the call gives. Each promises what the call that it passes on
+// refused; of the writer's calls and the checker it stands in the highest byte, above what the call gives. Each promises what the call that it passes on
 // promises.
 ghost use Rattle.rehearsal.specs.Promise.{run-of};
 ghost use Rattle.checker.specs.Promise.{logged};
@@ -30,7 +30,7 @@ pub extern "C" fn vembopu_sheet_len(header: &[u8], table: &[u8]) -> u64
 {
     let need = writer::needed(header, table);
     match need {
-        Need::Bytes(len) => cause::answer(0, len as u32),
+        Need::Bytes(len) => cause::answer(0, len as u64),
         Need::Refused(c) => cause::answer(c.number(), 0),
     }
 }
@@ -42,7 +42,7 @@ pub extern "C" fn vembopu_write(header: &[u8], table: &[u8], sheet: &mut [u8]) -
 {
     let writing = writer::write(header, table, sheet);
     match writing {
-        Writing::Written(k) => cause::answer(0, k as u32),
+        Writing::Written(k) => cause::answer(0, k as u64),
         Writing::Refused(c) => cause::answer(c.number(), 0),
     }
 }
@@ -105,7 +105,7 @@ pub extern "C" fn vembopu_check(
 {
     let checked = checker::check(Line { n, t, upper }, sender, log, outcomes);
     match checked {
-        Checked::Broke(marks) => cause::answer(0, marks),
+        Checked::Broke(marks) => cause::answer(0, marks as u64),
         Checked::Refused(c) => cause::answer(c.number(), 0),
     }
 }

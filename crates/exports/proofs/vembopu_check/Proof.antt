@@ -9,6 +9,9 @@ check-requires c κs = search needs
 enum-known-checked : tie.Need-enum-known-checked
 enum-known-checked c = search needs
 
+cast-answer : tie.Need-cast-answer
+cast-answer c = search needs
+
 answer-requires : tie.Need-answer-requires
 answer-requires c κs = search needs
 
@@ -37,6 +40,7 @@ vembopu-check-spec =
     (tie.spec
     check-requires
     enum-known-checked
+    cast-answer
     answer-requires
     enum-known-checked-2
     number-requires

@@ -1,7 +1,5 @@
 -- `vembopu_sheet_len` meets its contract: the answer as one number.
 use borrow.Author.Needs.{needs}
-use native.Mathlib.Omega.{arith}
-use Rattle.writer.proofs.PromiseLaws.{told-most}
 use Rattle.exports.proofs.vembopu_sheet_len.Statement.{statement}
 use Rattle.exports.proofs.vembopu_sheet_len.Tie as tie
 
@@ -10,11 +8,6 @@ needed-requires c κs = search needs
 
 enum-known-need : tie.Need-enum-known-need
 enum-known-need c = search needs
-
-cast-answer : tie.Need-cast-answer
-cast-answer c =
-    let a = c .before .before .before .before .before .before .args in
-    omega (arith, told-most (a .header .now) (a .table .now) _ (rw (c .before .need .given .1) at (c .before .before .before .needed .ensures)))
 
 answer-requires : tie.Need-answer-requires
 answer-requires c κs = search needs
@@ -44,7 +37,6 @@ vembopu-sheet-len-spec =
     (tie.spec
     needed-requires
     enum-known-need
-    cast-answer
     answer-requires
     enum-known-need-2
     number-requires

@@ -1,7 +1,5 @@
 -- `vembopu_write` meets its contract: the answer as one number.
 use borrow.Author.Needs.{needs}
-use native.Mathlib.Omega.{arith}
-use Rattle.writer.proofs.PromiseLaws.{written-most}
 use Rattle.exports.proofs.vembopu_write.Statement.{statement}
 use Rattle.exports.proofs.vembopu_write.Tie as tie
 
@@ -10,11 +8,6 @@ write-requires c κs = search needs
 
 enum-known-writing : tie.Need-enum-known-writing
 enum-known-writing c = search needs
-
-cast-answer : tie.Need-cast-answer
-cast-answer c =
-    let a = c .before .before .before .before .before .before .before .before .before .before .args in
-    omega (arith, written-most (a .header .now) (a .table .now) (a .sheet .now) _ _ (rw (c .before .writing .given .1) at (c .before .before .before .before .before .write .ensures)))
 
 answer-requires : tie.Need-answer-requires
 answer-requires c κs = search needs
@@ -50,7 +43,6 @@ vembopu-write-spec =
     (tie.spec
     write-requires
     enum-known-writing
-    cast-answer
     answer-requires
     enum-known-writing-2
     number-requires
