@@ -12,7 +12,8 @@ import pathlib
 import random
 import sys
 
-from model import BLANK, SILENCE, Keeping, Rules, Run, Station, broadcast, broke, exchange, log_of, run_markings
+from model import (BLANK, FIRST, KING, OUTCOME, SECOND, SENDER, SILENCE, Keeping, Rules, Run, Station, bit_or, broadcast, broke, exchange, garbled_alone, log_of,
+                   received, run_markings)
 
 CRATES = pathlib.Path(__file__).resolve().parent.parent / "crates"
 
@@ -24,12 +25,12 @@ def edited(base=Rules, **change):
 EDITED = {
     "thresholds_exchanged": edited(grade=lambda n, t, T, c: 2 if c >= n - T else 1 if c >= n - t else 0),
     "flag_at_grade_0_only": edited(flag=lambda g: 1 if g < 1 else 0),
-    "silence_counts_for_0": edited(read_first=lambda b: b if b <= 1 else 0),
+    "silence_counts_for_0": edited(first_value=lambda read: bit_or(0, read)),
     "z_kept_with_fewer": edited(keeps=lambda n, T, count: count + 1 >= n - T),
-    "blank_is_zero": edited(read_second=lambda b: b if b <= 1 else 0),
+    "blank_is_zero": edited(second_value=lambda read: bit_or(0, read)),
     "one_phase_less": edited(phases=lambda t: t),
     "king_obeyed_at_grade_1": edited(obeys=lambda g: g <= 1),
-    "king_read_as_0": edited(read_king=lambda y, b: b if b <= 1 else 0),
+    "king_read_as_0": edited(king_value=lambda y, read: bit_or(0, read)),
     "x_kept_at_grade_0": edited(left_with=lambda x, y, g: x if g == 0 else y),
     "king_sends_x": edited(kings_ballot=lambda x, y: x),
     "good_sender_from_table": edited(takes_table=lambda bad: not bad),
@@ -37,9 +38,9 @@ EDITED = {
     "station_king_tells_z": edited(station_kings_ballot=lambda y, z: z),
     "log_from_and_to_exchanged": edited(offset=lambda n, r, i, j: ((r - 1) * n + j) * n + i),
     "rows_transposed": edited(row_place=lambda n, r, i, j: ((r - 1) * n + j) * n + i),
-    "all_speak_in_round_1": edited(speaks_first=lambda i, sender: True),
+    "all_speak_in_round_1": edited(speaks=lambda kind, i, one: kind != KING or i == one),
     "alone_flag_from_y": edited(flag_alone=lambda y, g: 1 if y < 2 else 0),
-    "bad_outcome_shown": edited(bad_outcome=(0, 0, 0)),
+    "bad_outcome_shown": edited(bad_outcome=(0,) * OUTCOME),
 }
 
 
@@ -71,16 +72,31 @@ def broken_guarantee(run, outcomes):
     return None
 
 
+def is_garbled(kind, b):
+    """Request 4's "not 255 and its round has no meaning for it", byte by byte."""
+    return b not in ((0, 1, BLANK, SILENCE) if kind == SECOND else (0, 1, SILENCE))
+
+
+def has_garbled(run, r, row):
+    """Whether "at least one ballot it expected was garbled: from all in exchange rounds, else from the sender or the king."""
+    if r > 1 and r % 3 != 1:
+        return any(is_garbled(SECOND if r % 3 == 0 else FIRST, b) for b in row)
+    return is_garbled(SENDER, row[run.sender]) if r == 1 else is_garbled(KING, row[r // 3 - 1])
+
+
 def broken_exchange(rules, run, rng):
-    """Definition 6 of an exchange with any inputs, step 4's count, and the flags of the exchange had alone."""
+    """Definition 6 of an exchange with any inputs, step 4's count, and flag and count of garbled rounds of the exchange had alone."""
     x = [rng.randrange(2) for _ in range(run.n)] if rng.random() < 0.5 else [rng.randrange(2)] * run.n
-    _, y, grade, counts = exchange(rules, run, 1, x)
+    z, y, grade, counts = exchange(rules, run, 1, x)
     entered = {x[i] for i in run.good}
     left = {y[i] for i in run.good}
     if any(sum(c) != run.n for c in counts):
         return "Ballots-make-n"
     if any(rules.flag_alone(y[i], grade[i]) != (grade[i] < 2) for i in run.good):
         return "Exchange-bytes"
+    rows = {i: (received(rules, run, 1, x, i), received(rules, run, 2, z, i)) for i in run.good}
+    if any(garbled_alone(rules, run, x, z, i) != has_garbled(run, 2, rows[i][0]) + has_garbled(run, 3, rows[i][1]) for i in run.good):
+        return "Garbled-alone"
     if run.f <= run.T and len(entered) == 1 and (left != entered or any(grade[i] < (2 if run.f <= run.t else 1) for i in run.good)):
         return "Definition-6, validity"
     sure = [i for i in run.good if grade[i] == 2 or (run.f <= run.t and grade[i] >= 1)]
@@ -92,10 +108,22 @@ def broken_exchange(rules, run, rng):
 def broken_reading(rules, run):
     """What a byte counts for in the first round of an exchange, and what one from the king leaves."""
     row = run.table[:run.n]
-    if any([rules.read_first(b) for b in row].count(v) != row.count(v) for v in (0, 1)):
+    if any([rules.first_value(rules.reading(FIRST, b)) for b in row].count(v) != row.count(v) for v in (0, 1)):
         return "First-counts"
-    if any(rules.read_king(y, b) != (b if b <= 1 else y) for y in (0, 1) for b in row):
+    if any(rules.king_value(y, rules.reading(KING, b)) != (b if b <= 1 else y) for y in (0, 1) for b in row):
         return "Kings-word"
+    return None
+
+
+def broken_count(rules, run, said, outcomes):
+    """The rounds with a garbled ballot that a good station expected, in the log; none where nobody is bad."""
+    log = log_of(rules, run, said)
+    for j in run.good:
+        rows = {r: [log[Rules.offset(run.n, r, i, j)] for i in range(run.n)] for r in range(1, run.rounds + 1)}
+        if outcomes[j][3] != sum(has_garbled(run, r, row) for r, row in rows.items()):
+            return "Garbled-rounds"
+        if run.f == 0 and outcomes[j][3] != 0:
+            return "Garbled-rounds, none bad"
     return None
 
 
@@ -118,7 +146,7 @@ def broken_station(rules, run, said, outcomes):
         if i != run.sender and log[at:at + run.n] != [SILENCE] * run.n:
             return "Sent-by-rounds, not-sender"
     for i in set(range(run.n)) - set(run.good):
-        if outcomes[i] != (255, 255, 255):
+        if outcomes[i] != (255,) * OUTCOME:
             return "Outcome-bytes"
     return None
 
@@ -130,7 +158,7 @@ def demand_3(rules, run, rng):
 def any_theorem(rules, run, rng):
     said, outcomes = broadcast(rules, run)
     return (broken_guarantee(run, outcomes) or broken_exchange(rules, run, rng) or broken_reading(rules, run)
-            or broken_station(rules, run, said, outcomes))
+            or broken_station(rules, run, said, outcomes) or broken_count(rules, run, said, outcomes))
 
 
 def search(rules, broken, tries):
@@ -160,7 +188,7 @@ KEEPING = {
     "value_1_not_tried": edited(Keeping, values=(0,)),
     "any_byte_for_a_value": edited(Keeping, values=range(256)),
     "last_receiver_not_compared": edited(Keeping, receivers=lambda n: range(n - 1)),
-    "flag_not_compared": edited(Keeping, ends=lambda result, outcome: result[:2] == outcome[:2]),
+    "flag_not_compared": edited(Keeping, ends=lambda result, outcome: result[:2] + result[3:] == outcome[:2] + outcome[3:]),
     "sender_from_0": edited(Keeping, sender=lambda sender: sender + 1),
     "sender_excused": edited(Keeping, excused=lambda own, sender: own == sender),
 }
@@ -174,7 +202,8 @@ def random_log(rng):
     log = log_of(Rules, run, said)
     if rng.random() < 0.5:
         return run, log, outcomes, True
-    outcomes = [rng.choice(((0, 2, 0), (1, 2, 0), (1, 1, 1), (0, 0, 1), (1, 2, 1))) if rng.random() < 0.3 else one for one in outcomes]
+    ends = (0, 2, 0), (1, 2, 0), (1, 1, 1), (0, 0, 1), (1, 2, 1)
+    outcomes = [(*rng.choice(ends), rng.choice((one[3], one[3], 0, 1))) if rng.random() < 0.3 else one for one in outcomes]
     for at in rng.sample(range(len(log)), min(len(log), rng.randrange(3))):
         log[at] = rng.choice((0, 1, BLANK, SILENCE, 7))
     if rng.random() < 0.3:

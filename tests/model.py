@@ -1,26 +1,36 @@
-"""Document 01's steps with document 02's Tickets 2 and 3, for the tests: the graded exchange, the broadcast with its log, the single station, and the checker of
+"""Document 01's steps with document 02's Tickets 2 to 4, for the tests: the graded exchange, the broadcast with its log, the single station, and the checker of
 logs.
 
 Stations are counted from 0 and rounds from 1, as in the definitions of crate broadcast.
 """
 import itertools
 
-BLANK, SILENCE = 2, 255
+BLANK, SILENCE, GARBLED = 2, 255, "garbled"
+# the kinds of rounds
+SENDER, FIRST, SECOND, KING = "sender", "first", "second", "king"
+# "The outcome becomes four bytes a station": value, grade, flag, and the count of the rounds in which a ballot was garbled
+OUTCOME = 4
+
+
+def bit_or(other, read):
+    return read if read in (0, 1) else other
 
 
 class Rules:
     """The documents' steps. An edit replaces one of them."""
 
-    # "In the first round of an exchange a byte other than 0 or 1 now counts for neither value"
-    read_first = staticmethod(lambda b: b if b <= 1 else BLANK)
+    # which it was: "A byte is garbled if it is not 255 and its round has no meaning for it; blank is garbled outside the second round of an exchange."
+    reading = staticmethod(lambda kind, b: b if b in (0, 1, SILENCE) or (kind, b) == (SECOND, BLANK) else GARBLED)
+    # what the steps make of that. "In the first round of an exchange a byte other than 0 or 1 now counts for neither value"
+    first_value = staticmethod(lambda read: bit_or(BLANK, read))
     keeps = staticmethod(lambda n, T, count: count >= n - T)
-    read_second = staticmethod(lambda b: b if b <= 1 else BLANK)
+    second_value = staticmethod(lambda read: bit_or(BLANK, read))
     grade = staticmethod(lambda n, t, T, c: 2 if c >= n - t else 1 if c >= n - T else 0)
     flag = staticmethod(lambda g: 1 if g < 2 else 0)
     flag_alone = staticmethod(lambda y, g: 1 if g < 2 else 0)
     obeys = staticmethod(lambda g: g == 0)
     # "a king's unreadable ballot leaves a grade 0 station with its own y"
-    read_king = staticmethod(lambda y, b: b if b <= 1 else y)
+    king_value = staticmethod(lambda y, read: bit_or(y, read))
     left_with = staticmethod(lambda x, y, g: y)
     kings_ballot = staticmethod(lambda x, y: y)
     phases = staticmethod(lambda t: t + 1)
@@ -29,13 +39,30 @@ class Rules:
     station_kings_ballot = staticmethod(lambda y, z: y)
     offset = staticmethod(lambda n, r, i, j: ((r - 1) * n + i) * n + j)
     row_place = staticmethod(lambda n, r, i, j: ((r - 1) * n + i) * n + j)
-    bad_outcome = (255, 255, 255)
-    speaks_first = staticmethod(lambda i, sender: i == sender)
+    bad_outcome = (255,) * OUTCOME
+    # `one` is the sender or the king
+    speaks = staticmethod(lambda kind, i, one: kind in (FIRST, SECOND) or i == one)
+    # "at least one ballot it expected was garbled: from all in exchange rounds, else from the sender or the king.": from those who should speak
+    expects = staticmethod(lambda kind, speaks: speaks)
+    some_garbled = staticmethod(lambda ballots: ballots > 0)
+    # "A station counts the rounds in which"
+    counted_rounds = staticmethod(lambda rounds: range(1, rounds + 1))
+    counted = staticmethod(lambda garbled, some: garbled + some)
+    counted_alone = staticmethod(lambda first, second: first + second)
 
 
-def read_sender(b):
+def kind_of(r):
+    return SENDER if r == 1 else (SECOND, KING, FIRST)[r % 3]
+
+
+def one_of(run, r):
+    """The sender in round 1, the king in a king's round."""
+    return run.sender if r == 1 else r // 3 - 1
+
+
+def sender_value(rules, b):
     """In round 1 "a byte other than 0 or 1 is read as 0"."""
-    return b if b <= 1 else 0
+    return bit_or(0, rules.reading(SENDER, b))
 
 
 class Run:
@@ -61,45 +88,65 @@ def sends(rules, run, r, i, j, b):
 
 def first_step(rules, run, row, x):
     """Step 2: z."""
-    read = [rules.read_first(b) for b in row]
-    return x if rules.keeps(run.n, run.T, read.count(x)) else BLANK
+    values = [rules.first_value(rules.reading(FIRST, b)) for b in row]
+    return x if rules.keeps(run.n, run.T, values.count(x)) else BLANK
 
 
 def second_step(rules, run, row):
     """Steps 4 and 5: y, the grade, and the three counts."""
-    read = [rules.read_second(b) for b in row]
-    counts = [read.count(0), read.count(1), sum(rules.read_second(b) == BLANK for b in row)]
+    values = [rules.second_value(rules.reading(SECOND, b)) for b in row]
+    counts = [values.count(0), values.count(1), values.count(BLANK)]
     y = 0 if counts[0] > counts[1] else 1
     return y, rules.grade(run.n, run.t, run.T, counts[y]), counts
 
 
+def received(rules, run, r, said, j):
+    """Station j's row of a round in which the stations say these bytes."""
+    return [sends(rules, run, r, i, j, b) for i, b in enumerate(said)]
+
+
+def garbled(rules, kind, one, row):
+    """Whether a round of that kind, with that sender or king, counts at a station that receives the row."""
+    ballots = sum(rules.expects(kind, rules.speaks(kind, i, one)) and rules.reading(kind, b) == GARBLED for i, b in enumerate(row))
+    return rules.some_garbled(ballots)
+
+
 def exchange(rules, run, r, x):
-    n = run.n
-    z, y, grade, counts = [], [], [], []
-    for j in range(n):
-        row = [sends(rules, run, r, i, j, x[i]) for i in range(n)]
-        z.append(first_step(rules, run, row, x[j]))
-    for j in range(n):
-        out = second_step(rules, run, [sends(rules, run, r + 1, i, j, z[i]) for i in range(n)])
-        y.append(out[0]), grade.append(out[1]), counts.append(out[2])
-    return z, y, grade, counts
+    """z, y, grade and the three counts of each station."""
+    rows = [received(rules, run, r, x, j) for j in range(run.n)]
+    z = [first_step(rules, run, row, x[j]) for j, row in enumerate(rows)]
+    ends = [second_step(rules, run, received(rules, run, r + 1, z, j)) for j in range(run.n)]
+    return z, *map(list, zip(*ends))
+
+
+def garbled_alone(rules, run, x, z, j):
+    """The count of an exchange had alone, of its two rounds."""
+    first, second = received(rules, run, 1, x, j), received(rules, run, 2, z, j)
+    return rules.counted_alone(garbled(rules, FIRST, None, first), garbled(rules, SECOND, None, second))
+
+
+def garbled_rounds(rules, run, said, j):
+    """Station j's count in a broadcast."""
+    rows = {r: received(rules, run, r, said.get(r, [SILENCE] * run.n), j) for r in rules.counted_rounds(run.rounds)}
+    return sum(garbled(rules, kind_of(r), one_of(run, r), row) for r, row in rows.items())
 
 
 def broadcast(rules, run):
-    """The bytes said in each round, and value, grade and flag of each station."""
+    """The bytes said in each round, and the outcome of each station."""
     n, said = run.n, {}
-    said[1] = [run.value if rules.speaks_first(i, run.sender) else SILENCE for i in range(n)]
-    x = [read_sender(sends(rules, run, 1, run.sender, j, run.value)) for j in range(n)]
+    said[1] = [run.value if rules.speaks(SENDER, i, run.sender) else SILENCE for i in range(n)]
+    x = [sender_value(rules, sends(rules, run, 1, run.sender, j, run.value)) for j in range(n)]
     for p in range(rules.phases(run.t) + 1):
         r = 3 * (p + 1) - 1
         z, y, grade, counts = exchange(rules, run, r, x)
         said[r], said[r + 1] = x, z
-        said[r + 2] = [rules.kings_ballot(x[i], y[i]) if i == p else SILENCE for i in range(n)]
+        said[r + 2] = [rules.kings_ballot(x[i], y[i]) if rules.speaks(KING, i, p) else SILENCE for i in range(n)]
         if p < rules.phases(run.t):
             king = [sends(rules, run, r + 2, p, j, said[r + 2][p]) for j in range(n)]
             y = [rules.left_with(x[j], y[j], grade[j]) for j in range(n)]
-            x = [rules.read_king(y[j], king[j]) if rules.obeys(grade[j]) else y[j] for j in range(n)]
-    return said, [rules.bad_outcome if run.bad[j] else (y[j], grade[j], rules.flag(grade[j])) for j in range(n)]
+            x = [rules.king_value(y[j], rules.reading(KING, king[j])) if rules.obeys(grade[j]) else y[j] for j in range(n)]
+    ends = [None if run.bad[j] else (y[j], grade[j], rules.flag(grade[j]), garbled_rounds(rules, run, said, j)) for j in range(n)]
+    return said, [rules.bad_outcome if end is None else end for end in ends]
 
 
 def log_of(rules, run, said):
@@ -116,32 +163,32 @@ class Station:
     """One station as it runs singly."""
 
     def __init__(self, rules, run, own, value):
-        self.rules, self.run, self.own, self.round, self.value, self.z, self.grade = rules, run, own, 1, value, BLANK, 0
+        self.rules, self.run, self.own, self.round, self.value, self.z, self.grade, self.garbled = rules, run, own, 1, value, BLANK, 0, 0
 
     def ballot(self):
-        if self.round == 1:
-            return self.value if self.rules.speaks_first(self.own, self.run.sender) else SILENCE
-        if self.round % 3 == 2:
-            return self.value
-        if self.round % 3 == 0:
+        kind = kind_of(self.round)
+        if not self.rules.speaks(kind, self.own, one_of(self.run, self.round)):
+            return SILENCE
+        if kind == SECOND:
             return self.z
-        return self.rules.station_kings_ballot(self.value, self.z) if self.own == self.round // 3 - 1 else SILENCE
+        return self.rules.station_kings_ballot(self.value, self.z) if kind == KING else self.value
 
     def take(self, row):
-        rules, run = self.rules, self.run
-        if self.round == 1:
-            self.value = read_sender(row[run.sender])
-        elif self.round % 3 == 2:
+        rules, run, kind, one = self.rules, self.run, kind_of(self.round), one_of(self.run, self.round)
+        self.garbled = rules.counted(self.garbled, garbled(rules, kind, one, row))
+        if kind == SENDER:
+            self.value = sender_value(rules, row[one])
+        elif kind == FIRST:
             self.z = first_step(rules, run, row, self.value)
-        elif self.round % 3 == 0:
+        elif kind == SECOND:
             self.value, self.grade, _ = second_step(rules, run, row)
         elif rules.obeys(self.grade):
-            self.value = rules.read_king(self.value, row[self.round // 3 - 1])
+            self.value = rules.king_value(self.value, rules.reading(KING, row[one]))
         self.round += 1
 
     def result(self):
         if self.round == self.rules.rows_to_done(self.run.rounds) + 1:
-            return self.value, self.grade, self.rules.flag(self.grade)
+            return self.value, self.grade, self.rules.flag(self.grade), self.garbled
         return self.round
 
 
