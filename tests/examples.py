@@ -1,9 +1,10 @@
 #!/usr/bin/env python3
 """The examples: run sheets, each with the text that it stands for and its listing; logs with outcomes, each with the stations that broke the rules.
 
-examples.py          writes the sheets and listings of examples/: the documents' cases A to D, a large run in which ten bad stations divide the good ones,
-                     the longest listing, and an untidy sheet beside the tidy one that it is rewritten to. The texts are written by hand, the picture of
-                     case C by ./draw. Then the logs and outcomes, of case A's run and of another maker's, with what the program audit prints of them
+examples.py          writes the sheets and listings of examples/: the documents' cases A to D, a line with garbled ballots and silence, a large run in which
+                     ten bad stations divide the good ones, the longest listing, and an untidy sheet beside the tidy one that it is rewritten to. The texts
+                     are written by hand, the picture of case C by ./draw. Then the logs and outcomes, of case A's run and of another maker's, with what the
+                     program audit prints of them
 examples.py --check  holds each sheet to the one made here and to its text, its listing to the model's, and what the program agree prints to the listing; then
                      some inputs of odd lengths. Holds what the program rewrite writes of all of these, and of the sheets of crate runs, to the model's normal
                      form. Holds each log to the one made here, its set to the model's and to the least of all markings, and what the program audit prints to
@@ -23,7 +24,7 @@ from counting import built, closing
 
 TOP = os.path.join(os.path.dirname(os.path.abspath(__file__)), "..")
 EXAMPLES = os.path.join(TOP, "examples")
-LONGEST_LISTING = 300
+LONGEST_LISTING = 395
 PROGRAM, REWRITE, AUDIT = PROGRAMS = [os.path.join(TOP, "target", "bin", name) for name in ("agree", "rewrite", "audit")]
 # has no text: none gives records outside the chain
 UNTIDY = "untidy"
@@ -49,12 +50,12 @@ def listing(data):
     _, outcomes = model.broadcast(model.Rules, run)
     lines = [f"agree {run.n} {run.t} {run.T} {run.sender + 1} {run.rounds}"]
     for i in range(run.n):
-        lines.append(" ".join([str(i + 1)] + (["-"] * 3 if run.bad[i] else [str(b) for b in outcomes[i]])))
+        lines.append(" ".join([str(i + 1)] + (["-"] * model.OUTCOME if run.bad[i] else [str(b) for b in outcomes[i]])))
     return "".join(line + "\n" for line in lines)
 
 
 def logged(run):
-    """The log of a run and its outcomes, three bytes a station."""
+    """The log of a run and its outcomes."""
     said, outcomes = model.broadcast(model.Rules, run)
     return bytes(model.log_of(model.Rules, run, said)), bytes(itertools.chain(*outcomes))
 
@@ -62,7 +63,7 @@ def logged(run):
 def audited(line, log, outcomes):
     """What is printed of a log on a line of n, t, T and the sender: the set, or the lowest of its causes."""
     n, t, T, sender = line
-    lengths = reader.table_size(n, t), 3 * n
+    lengths = reader.table_size(n, t), model.OUTCOME * n
     causes = {2: not 1 <= n <= 32, 3: t > T or t + 2 * T >= n, 4: not 1 <= sender <= n, 8: (len(log), len(outcomes)) != lengths}
     if any(causes.values()):
         return f"refused {min(cause for cause, holds in causes.items() if holds)}\n"
@@ -72,7 +73,7 @@ def audited(line, log, outcomes):
 def as_run(line, log, outcomes):
     """A log as a run's table, and the outcomes by station."""
     n, t, T, sender = line
-    return model.Run(n, t, T, sender - 1, 0, [False] * n, log), [tuple(outcomes[3 * i:3 * i + 3]) for i in range(n)]
+    return model.Run(n, t, T, sender - 1, 0, [False] * n, log), [tuple(outcomes[at:at + model.OUTCOME]) for at in range(0, len(outcomes), model.OUTCOME)]
 
 
 # ---- the sheets
@@ -100,6 +101,12 @@ def shuffled(items, seed):
     return items
 
 
+def garbled():
+    """Two bad stations of seven. What station 6 sends in any round arrives garbled at stations 1 to 3 and as a blank at station 4; station 7 is silent."""
+    rounds = range(1, 13)
+    return sheet_of(7, 2, 2, 1, 1, [6, 7], [(r, 6, j, 77) for r in rounds for j in (1, 2, 3)] + [(r, 6, 4, 2) for r in rounds])
+
+
 def large():
     """The largest line with ten bad stations, which tell stations 11 to 21 a zero and 22 to 32 a one: the sender, and in eight phases all ten in the
     exchange and the king. Then they are garbled."""
@@ -108,6 +115,19 @@ def large():
     divided = [([1], [7])] + [(exchanges, bad)] + [([3 * p + 1], [p]) for p in phases]
     records = [(r, i, j, bit) for rounds, froms in divided for bit, tos in ((0, low), (1, high)) for r in rounds for i in froms for j in tos]
     return sheet_of(32, 10, 10, 7, 1, bad, records + [(26, i, j, 77) for i in bad for j in range(1, 33)])
+
+
+def longest():
+    """The sheet of the longest listing: n, t, T, the sender, R and the counts have two digits. Only a bad station's ballots can be garbled, and its own line is
+    the shorter, so there is one: the sender, garbled in every round."""
+    return sheet_of(32, 10, 10, 32, 1, [32], [(r, 32, j, 77) for r in range(1, 37) for j in range(1, 33)])
+
+
+def longest_of(n, t, T, bad):
+    """How long a listing of that line with so many bad stations can be at most: with none all counts are 0."""
+    rounds = 3 * t + 6
+    fields = len("- - - -") * bad + len(f"0 0 0 {rounds if bad else 0}") * (n - bad)
+    return len(f"agree {n} {t} {T} {n} {rounds}\n") + fields + sum(len(f"{i} \n") for i in range(1, n + 1))
 
 
 def longest_sheet():
@@ -140,9 +160,9 @@ def sheets():
         "c": sheet_of(3, 0, 1, 1, 0, [1], both),
         "d": sheet_of(1, 0, 0, 1, 0, [], []),
         "d-bad": sheet_of(1, 0, 0, 1, 0, [1], []),
+        "garbled": garbled(),
         "large": large(),
-        # every number that can have two digits has two: n, t, T, the sender and R
-        "longest": sheet_of(32, 10, 10, 32, 1, [], []),
+        "longest": longest(),
         UNTIDY: untidy(),
         "tidy": sheet_of(4, 0, 1, 4, 0, [4], [(1, 4, 1, 1), (1, 4, 2, 0), (2, 4, 3, 1), (3, 4, 1, 77)]),
     }
@@ -153,7 +173,7 @@ def foreign():
     others do, and station 5 a zero; station 3 shows grade 1 and a flag, though its last row has five ones."""
     log, outcomes = (bytearray(part) for part in logged(model.Run(5, 1, 1, 1, 1, [False] * 5, [])))
     log[reader.place(5, 5, 4, 5)] = 0
-    outcomes[6:9] = 1, 1, 1
+    outcomes[2 * model.OUTCOME:3 * model.OUTCOME] = 1, 1, 1, 0
     return (5, 1, 1, 2), bytes(log), bytes(outcomes)
 
 
@@ -230,6 +250,8 @@ def checks():
     for name, sheet in sheets().items():
         yield f"{name}: the program prints its listing", printed(sheet) == expected[name + ".listing"]
     yield f"longest: the listing has {LONGEST_LISTING} bytes", len(read(os.path.join(EXAMPLES, "longest.listing"))) == LONGEST_LISTING
+    lines = [(n, t, T) for n in range(1, 33) for T in range(n) for t in range(T + 1) if t + 2 * T < n]
+    yield "longest: no listing is longer", max(longest_of(*line, bad) for line in lines for bad in range(line[0] + 1)) == LONGEST_LISTING
     for name, sheet in odd_inputs().items():
         expected = listing(sheet)
         yield f"{name}: {expected.split(chr(10))[0]}", printed(sheet) == expected.encode()
@@ -292,7 +314,7 @@ def odd_logs():
     yield from (((5, 1, 1, 0), log, outcomes), ((5, 1, 1, 6), log, outcomes), ((255,) * 4, log, outcomes), ((0, 1, 0, 0), b"", b""))
     yield from ((line, log[:-1], outcomes), (line, log + b"\0", outcomes), (line, b"", outcomes), (line, log, b""), (line, outcomes, log))
     yield from ((line, log, outcomes[:-1]), (line, log, outcomes + b"\0"), (line, bytes(10 * reader.LARGEST_TABLE), outcomes), (line, log, bytes(70000)))
-    yield (32, 10, 10, 32), bytes(reader.LARGEST_TABLE), bytes(96)
+    yield (32, 10, 10, 32), bytes(reader.LARGEST_TABLE), bytes(32 * model.OUTCOME)
 
 
 def odd_words():

@@ -1,9 +1,12 @@
-"""The sheets that the program of crate runs is given: the documents' cases, every cause in its variants, causes in
-conflict, chains of every shape, the longest sheets, and sheets drawn by lot, many of them damaged.
+"""The sheets that the program of crate runs is given: the documents' cases, garbled ballots in every kind of round,
+every cause in its variants, causes in conflict, chains of every shape, the longest sheets, and sheets drawn by lot, many
+of them damaged.
 
 Each has the length of the table that is lent with it. Those that are not drawn have the answer that the documents give.
 """
 from collections import namedtuple
+
+from model import OUTCOME
 
 Call = namedtuple("Call", "n t T sender value marks")
 # a next index of None is that of the record after it in the chain, or 0
@@ -62,17 +65,20 @@ def filler():
     return given(0, chained(call, [Record(*p, 7 * q % 255) for q, p in enumerate(place_numbers(call))]))
 
 
-# ---- document 01's cases, B as Ticket 2 has it
+# ---- document 01's cases, B as Ticket 2 has it, with Ticket 4's count, which is 0 in all of them
+
+BAD = [255] * OUTCOME
+
 
 def worked():
-    bad, a = [255] * 3, Call(4, 1, 1, 1, 1, 8)
-    yield given(0, bytes([4, 1, 1, 1, 1, 0, 0, 0, 8, 0, 0, 0]), outcomes=[1, 2, 0] * 3 + bad)
+    a = Call(4, 1, 1, 1, 1, 8)
+    yield given(0, bytes([4, 1, 1, 1, 1, 0, 0, 0, 8, 0, 0, 0]), outcomes=[1, 2, 0, 0] * 3 + BAD)
     told = [Record(1, 4, 1, 1), Record(1, 4, 2, 0), Record(1, 4, 3, 0)]
-    yield given(0, chained(Call(4, 0, 1, 4, 0, 8), told), outcomes=[1, 1, 1] * 3 + bad)
+    yield given(0, chained(Call(4, 0, 1, 4, 0, 8), told), outcomes=[1, 1, 1, 0] * 3 + BAD)
     told = [Record(r, 1, j, j - 2) for r in (1, 2, 3, 5, 6) for j in (2, 3)]
-    yield given(0, chained(Call(3, 0, 1, 1, 0, 1), told), outcomes=bad + [0, 1, 1, 1, 1, 1])
-    yield given(0, header(Call(1, 0, 0, 1, 0, 0)), outcomes=[0, 2, 0])
-    yield given(0, header(Call(1, 0, 0, 1, 0, 1)), outcomes=bad)
+    yield given(0, chained(Call(3, 0, 1, 1, 0, 1), told), outcomes=BAD + [0, 1, 1, 0, 1, 1, 1, 0])
+    yield given(0, header(Call(1, 0, 0, 1, 0, 0)), outcomes=[0, 2, 0, 0])
+    yield given(0, header(Call(1, 0, 0, 1, 0, 1)), outcomes=BAD)
     yield given(0, header(Call(32, 10, 10, 1, 0, 0)))
     yield given(0, header(Call(32, 0, 15, 1, 0, 0)))
     yield given(0, header(Call(4, 1, 1, 1, 0, 0)))
@@ -84,6 +90,34 @@ def worked():
     yield given(1, header(a) + b"\0")
     yield given(2, header(a._replace(n=0)))
     yield given(2, header(a._replace(n=33)))
+
+
+# ---- garbled ballots: four stations, R 9, kings 1 and 2 in rounds 4 and 7, one bad
+
+def told_by(call, *ballots):
+    """A sheet of these: the rounds, who is told, and the ballot, all from the bad station."""
+    bad = call.marks.bit_length()
+    return chained(call, [Record(r, bad, j, b) for rounds, to, b in ballots for r in rounds for j in to])
+
+
+def garbled():
+    all_four, a = range(1, 5), Call(4, 1, 1, 1, 1, 8)
+    # in exchange rounds from anyone; blank in a first one only; a round once
+    yield given(0, told_by(a, ([2], [1], 77), ([3], all_four, 3)), outcomes=[1, 2, 0, 2, 1, 2, 0, 1, 1, 2, 0, 1] + BAD)
+    yield given(0, told_by(a, ([2, 8], [2], 2), ([3, 9], [3], 2)), outcomes=[1, 2, 0, 0, 1, 2, 0, 2, 1, 2, 0, 0] + BAD)
+    # silence is none, nor what a bad station tells itself
+    yield given(0, told_by(a, ([2, 3], [1, 2, 3], 255), ([2, 3], [4], 254)), outcomes=[1, 2, 0, 0] * 3 + BAD)
+    # in rounds 1, 4 and 7 from neither the sender nor the king
+    yield given(0, told_by(a, ([1, 4, 7], all_four, 77)), outcomes=[1, 2, 0, 0] * 3 + BAD)
+    # from the sender, read as 0; from the king, who is not obeyed at grade 2
+    yield given(0, told_by(a._replace(sender=4), ([1], [1], 77), ([1], [2], 2), ([1], [3], 255)), outcomes=[0, 2, 0, 1] * 2 + [0, 2, 0, 0] + BAD)
+    first = Call(4, 1, 1, 2, 1, 1)
+    yield given(0, told_by(first, ([4], [2], 77), ([4], [3], 2), ([4], [4], 255)), outcomes=BAD + [1, 2, 0, 1] * 2 + [1, 2, 0, 0])
+    # in every round: all but round 7, which is another's
+    yield given(0, told_by(first._replace(sender=1), (range(1, 10), all_four, 77)), outcomes=BAD + [0, 2, 0, 8] * 3)
+    # two at once: too few are left for a grade
+    both = [Record(2, i, j, 77) for i in (3, 4) for j in all_four]
+    yield given(0, chained(LINE, both), outcomes=[1, 0, 1, 1] * 2 + BAD * 2)
 
 
 # ---- causes 1 to 8, one at a time
@@ -408,8 +442,8 @@ def drawn(lot, count):
 
 
 def fixed(lot):
-    for group in (worked(), sheet_form(), line_numbers(), sender_and_value(), marks(), table_lengths(), chains(), records(),
-                  places(), conflicts(), longest(lot)):
+    for group in (worked(), garbled(), sheet_form(), line_numbers(), sender_and_value(), marks(), table_lengths(), chains(),
+                  records(), places(), conflicts(), longest(lot)):
         yield from group
 
 
