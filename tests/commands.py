@@ -16,6 +16,7 @@ import time
 
 import examples
 from counting import closing
+from model import OUTCOME
 
 TOP = pathlib.Path(__file__).resolve().parent.parent
 AGREE, LISTING = TOP / "examples" / "a.sheet", (TOP / "examples" / "a.listing").read_bytes()
@@ -207,14 +208,16 @@ def audits_refused(folder):
     short.write_bytes(LOG[:-1])
     empty.touch()
     trials = [(("0", *LINE[1:]), FILES, "2", ""), (("9" * 30, *LINE[1:]), FILES, "2", ""), (("5", "2", "1", "2"), FILES, "3", ""), ((*LINE[:3], "6"), FILES, "4", "")]
-    for files, has in ((short, FILES[1]), (224, 15)), ((FILES[0], empty), (225, 0)), ((FILES[1], FILES[0]), (15, 225)):
-        lengths = f"audit: the log has {has[0]} bytes and the outcomes have {has[1]}: wanted are 225 bytes of log and 15 of outcomes\n"
+    bytes_of_5 = 5 * OUTCOME
+    for files, has in ((short, FILES[1]), (224, bytes_of_5)), ((FILES[0], empty), (225, 0)), ((FILES[1], FILES[0]), (bytes_of_5, 225)):
+        lengths = f"audit: the log has {has[0]} bytes and the outcomes have {has[1]}: wanted are 225 bytes of log and {bytes_of_5} of outcomes\n"
         trials.append((("5", "01", "1", "2"), files, "8", lengths))
     for line, files, number, lengths in trials:
         said = re.escape(f"audit: refused {number}: {told[number]}\n{lengths}")
         yield f"audit, refused {number}: {line}, {lengths}", Ran("audit", *line, *files).gives(1, f"refused {number}\n".encode(), said)
     done = in_shell(f"./audit 32 010 10 1 <(cat {FILES[0]}) {FILES[1]}")
-    yield "audit: lengths of a pipe", done.stderr.endswith(b"\naudit: wanted are 36864 bytes of log and 96 of outcomes\n") and done.stdout == b"refused 8\n"
+    said = f"\naudit: wanted are 36864 bytes of log and {32 * OUTCOME} of outcomes\n"
+    yield "audit: lengths of a pipe", done.stderr.decode().endswith(said) and done.stdout == b"refused 8\n"
 
 
 def audit_troubles(folder):
