@@ -56,7 +56,8 @@ static void copy(struct draft *to, const struct draft *from)
 /* The draft of a line, rehearsed with the table. */
 static void rehearse(struct draft *d, int n, int t, int T, int sender, int value, uint32_t marks)
 {
-    struct checking k = {n, t, T, sender, d->log, (size_t)(rounds(t) * n * n), d->outcomes, (size_t)(3 * n)};
+    size_t log_len = (size_t)(rounds(t) * n * n), outcomes_len = (size_t)(VEMBOPU_OUTCOME * n);
+    struct checking k = {n, t, T, sender, d->log, log_len, d->outcomes, outcomes_len};
     d->k = k;
     vembopu_rehearse((uint8_t)n, (uint8_t)t, (uint8_t)T, (uint8_t)sender, (uint8_t)value, marks, table, k.log_len,
                      d->log, k.log_len, d->outcomes, k.outcomes_len);
@@ -76,6 +77,7 @@ FAULT(log_long, c->log_len = base.k.log_len + 1)
 FAULT(log_null, c->log = NULL; c->log_len = 0)
 FAULT(outcomes_short, c->outcomes_len = base.k.outcomes_len - 1)
 FAULT(outcomes_long, c->outcomes_len = base.k.outcomes_len + 1)
+FAULT(outcomes_of_3, c->outcomes_len = (size_t)(3 * base.k.n))
 FAULT(outcomes_null, c->outcomes = NULL; c->outcomes_len = 0)
 
 /* In the order of refusals. */
@@ -100,6 +102,7 @@ static const struct fault {
     {"log NULL", 8, log_null},
     {"outcomes short", 8, outcomes_short},
     {"outcomes long", 8, outcomes_long},
+    {"outcomes of three bytes", 8, outcomes_of_3},
     {"outcomes NULL", 8, outcomes_null},
 };
 
@@ -152,8 +155,20 @@ static void log_byte(int r, int i, int j, uint8_t byte, uint32_t set)
 static void outcome_byte(int i, int which, uint8_t byte, uint32_t set)
 {
     copy(&one, &base);
-    one.outcomes[3 * (i - 1) + which] = byte;
+    one.outcomes[VEMBOPU_OUTCOME * (i - 1) + which] = byte;
     check(answers(&one.k, set), "byte %d of the outcome of %d: %d", which, i, byte);
+}
+
+/* The base with a garbled ballot from i to j, and without the count of it in j's
+   outcome: both are in the set; with it, only i. */
+static void garbled_byte(int r, int i, int j, uint8_t byte)
+{
+    uint32_t from = (uint32_t)1 << (i - 1), to = (uint32_t)1 << (j - 1);
+    log_byte(r, i, j, byte, from | to);
+    one.outcomes[VEMBOPU_OUTCOME * (j - 1) + 3] = 1;
+    check(answers(&one.k, from), "%d to %d in round %d: %d, counted", i, j, r, byte);
+    one.outcomes[VEMBOPU_OUTCOME * (j - 1) + 3] = 2;
+    check(answers(&one.k, from | to), "%d to %d in round %d: %d, counted twice", i, j, r, byte);
 }
 
 /* The base with a station's byte of a round, to all, changed. */
@@ -175,21 +190,31 @@ static void worked_out(int value)
     log_byte(1, 2, 2, other, 2);    /* also to itself */
     log_byte(1, 3, 1, other, 4);    /* doesn't speak; nobody listens */
     log_byte(1, 3, 3, 254, 4);
-    log_byte(2, 4, 1, 2, 8);        /* three are enough */
+    log_byte(2, 4, 1, 255, 8);      /* three are enough */
     log_byte(4, 2, 3, said, 2);     /* not the king */
+    log_byte(4, 2, 3, 77, 2);
     log_byte(4, 1, 3, other, 1);    /* the king, not obeyed at grade 2 */
     log_byte(7, 2, 4, 255, 2);
     log_byte(9, 1, 1, 2, 1);        /* to itself: its grade stays 2 */
-    says(1, 2, 7, value == 0 ? 2 : 15); /* the sender, read as 0 */
+    log_byte(3, 1, 2, 2, 1);        /* a blank in a second round */
+    says(1, 2, 7, 15);              /* the sender, read as 0, and counted */
     says(1, 2, 255, value == 0 ? 2 : 15);
     says(1, 4, said, 8);            /* neither the sender nor the king */
     says(7, 4, said, 8);
+    says(7, 4, 77, 8);
+    garbled_byte(2, 4, 1, 2);       /* a blank in a first round */
+    garbled_byte(5, 3, 4, 254);
+    garbled_byte(3, 1, 2, 3);
+    garbled_byte(4, 1, 3, 2);       /* the kings */
+    garbled_byte(7, 2, 4, 77);
     for (int i = 1; i <= 4; i++) {
         uint32_t alone = (uint32_t)1 << (i - 1);
         outcome_byte(i, 0, other, alone);
         outcome_byte(i, 1, 1, alone);
         outcome_byte(i, 2, 1, alone);
+        outcome_byte(i, 3, 1, alone);
         outcome_byte(i, 0, 255, alone);
+        outcome_byte(i, 3, 255, alone);
     }
 }
 
@@ -198,6 +223,7 @@ static void all_of_32(void)
 {
     rehearse(&base, 32, 10, 10, 32, 1, 0);
     outcome_byte(32, 2, 1, 0x80000000u);
+    outcome_byte(32, 3, 36, 0x80000000u);
     memset(base.outcomes, 255, OUTCOMES);
     check(answers(&base.k, 0xffffffffu), "all of 32");
 }
@@ -213,7 +239,8 @@ static int is_run(const struct checking *k, uint32_t marks, int value)
     rehearse(&two, k->n, k->t, k->T, k->sender, value, marks);
     same = memcmp(two.log, k->log, k->log_len) == 0;
     for (int i = 0; i < k->n; i++)
-        same = same && (marks >> i & 1 || memcmp(two.outcomes + 3 * i, k->outcomes + 3 * i, 3) == 0);
+        same = same && (marks >> i & 1 || memcmp(two.outcomes + VEMBOPU_OUTCOME * i, k->outcomes + VEMBOPU_OUTCOME * i,
+                                                 VEMBOPU_OUTCOME) == 0);
     return same;
 }
 

@@ -15,7 +15,7 @@ static uint64_t accepted(const char *call, int station, uint64_t answer)
 /* Four stations with t = T = 1. Station 1 wants to change over; station 4 is silent all along. */
 int main(void)
 {
-    uint32_t state[4];
+    uint64_t state[4];
     uint8_t row[4];
     for (uint8_t i = 1; i <= 3; i++)
         state[i] = vembopu_state(accepted("open", i, vembopu_open(4, 1, 1, 1, i, 1)));
@@ -30,8 +30,8 @@ int main(void)
     }
     for (uint8_t i = 1; i <= 3; i++) {
         uint64_t end = accepted("result", i, vembopu_result(4, 1, 1, 1, i, state[i]));
-        printf("station %d: value %d, grade %d, flag %d\n", i, vembopu_value(end),
-               vembopu_grade(end), vembopu_flag(end));
+        printf("station %d: value %d, grade %d, flag %d, garbled %d\n", i, vembopu_value(end),
+               vembopu_grade(end), vembopu_flag(end), vembopu_garbled(end));
     }
     return 0;
 }

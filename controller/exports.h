@@ -7,16 +7,19 @@
  * R = 3t + 6 is the number of rounds, vembopu_rounds(t). A table has the byte
  * for round r, from i, to j at ((r-1)*n + (i-1))*n + (j-1). Any byte may stand
  * there; in a run it counts as in a row of vembopu_advance. In marks, bit i-1 is
- * set if station i is marked, which is to say bad. An outcome is three bytes a
- * station: value, grade 0 to 2, flag 0 or 1; a bad station's are 255.
+ * set if station i is marked, which is to say bad. An outcome is four bytes a
+ * station, VEMBOPU_OUTCOME: value, grade 0 to 2, flag 0 or 1, and garbled, the
+ * count of the rounds in which a ballot that the station expected was garbled,
+ * 0 to R; a bad station's are 255.
  *
  * Each call answers with the number of the refusal, 0 if accepted;
- * vembopu_sheet_len, vembopu_write and vembopu_check in the upper 32 of 64
- * bits, as the station's calls do. Any content may be handed in. A call reads
- * nothing but its arguments and the bytes that they point to, keeps nothing,
- * and the same arguments always give the same answer and the same bytes. It
- * writes only what is said below; if it is refused, every byte is as it was. It
- * calls nothing but memcpy and memset, which it takes from the C library.
+ * vembopu_sheet_len, vembopu_write and vembopu_check with 64 bits, laid out as
+ * vembopu.h has it of every such answer. Any content may be handed in. A call
+ * reads nothing but its arguments and the bytes that they point to, keeps
+ * nothing, and the same arguments always give the same answer and the same
+ * bytes. It writes only what is said below; if it is refused, every byte is as
+ * it was. It calls nothing but memcpy and memset, which it takes from the C
+ * library.
  *
  * A pointer has to point to as many bytes as its length says, which nobody else
  * writes during the call. It may be NULL only if that length is 0. No call
@@ -33,6 +36,11 @@
 #ifdef __cplusplus
 extern "C" {
 #endif
+
+/* Bytes of a station's outcome. */
+enum {
+    VEMBOPU_OUTCOME = 4
+};
 
 /*
  * Bytes of stack that a call needs at most, as in vembopu.h, with memcpy and
@@ -78,10 +86,9 @@ uint8_t vembopu_read(const uint8_t *sheet, size_t sheet_len,
  *             record; the bytes of unmarked senders have no effect. Only read.
  * table_len   R*n*n, with the n and the t of the header
  *
- * Answers with 64 bits: in the upper 32 the number of the refusal, 0 if
- * accepted; in the lower 32 the bytes, 12 + 8k for k records, 0 if refused.
+ * Gives the bytes, 12 + 8k for k records.
  * Refused: the lowest of 1, 2, 3, 4, 5, 6; then 8; then 14, if k is above
- * 4,096.
+ * 4,096; it gives 0 then.
  */
 uint64_t vembopu_sheet_len(const uint8_t *header, size_t header_len,
                            const uint8_t *table, size_t table_len);
@@ -110,9 +117,9 @@ uint64_t vembopu_sheet_len(const uint8_t *header, size_t header_len,
  * read from it leaves out the records that are not chained and those of
  * silence; to do so again changes nothing.
  *
- * Answers with 64 bits: in the upper 32 the number of the refusal, 0 if
- * accepted; in the lower 32 the number of records, k, 0 if refused.
- * Refused: as vembopu_sheet_len; after these, by 8, if sheet_len isn't 12 + 8k.
+ * Gives the number of records, k.
+ * Refused: as vembopu_sheet_len; after these, by 8, if sheet_len isn't 12 + 8k;
+ * it gives 0 then.
  */
 uint64_t vembopu_write(const uint8_t *header, size_t header_len,
                        const uint8_t *table, size_t table_len,
@@ -150,7 +157,7 @@ static inline uint32_t vembopu_records(uint64_t answer)
  * outcomes      written
  * table_len     R*n*n
  * log_len       R*n*n
- * outcomes_len  3*n
+ * outcomes_len  4*n
  *
  * Refused: the lowest of 2, 3, 4, 5, 6, 8.
  */
@@ -168,9 +175,9 @@ uint8_t vembopu_rehearse(uint8_t n, uint8_t t, uint8_t upper, uint8_t sender,
  * sender        1 to n
  * log           laid out like a run table: what each station sent to each in
  *               each round, 255 where it sent nothing. Only read.
- * outcomes      what each station ended with, three bytes a station. Only read.
+ * outcomes      what each station ended with, its count too. Only read.
  * log_len       R*n*n
- * outcomes_len  3*n
+ * outcomes_len  4*n
  *
  * A station is in the set exactly if no value of its own, 0 or 1, with the rows
  * that it received in the log, makes it send its logged bytes, to all and in
@@ -183,9 +190,8 @@ uint8_t vembopu_rehearse(uint8_t n, uint8_t t, uint8_t upper, uint8_t sender,
  * it, and may break them in another run. Whether the log is true to what was
  * sent, the call can't tell.
  *
- * Answers with 64 bits: in the upper 32 the number of the refusal, 0 if
- * accepted; in the lower 32 the set as marks, 0 if refused.
- * Refused: the lowest of 2, 3, 4, 8.
+ * Gives the set as marks.
+ * Refused: the lowest of 2, 3, 4, 8; it gives 0 then.
  */
 uint64_t vembopu_check(uint8_t n, uint8_t t, uint8_t upper, uint8_t sender,
                        const uint8_t *log, size_t log_len,
@@ -209,10 +215,11 @@ static inline uint32_t vembopu_broke(uint64_t answer)
  *               isn't looked at. Only read.
  * table         like a run table, of two rounds. Only the bytes of marked
  *               senders have effect. Only read.
- * outcomes      written; the flag is 1 if the grade is below 2
+ * outcomes      written; the flag is 1 if the grade is below 2, the count is of
+ *               the two rounds, 0 to 2
  * inputs_len    n
  * table_len     2*n*n
- * outcomes_len  3*n
+ * outcomes_len  4*n
  *
  * Refused: the lowest of 2, 3, 5, 6, 8; by 5 only if inputs_len is n.
  */

@@ -1,9 +1,10 @@
 /*
  * The headers' helpers on answers of every kind: refused by each number, running
- * in each round, done with each value and grade, every ballot, sheets of few
- * and of many records, logs of which none, one and all broke the rules; as the
- * library answers, and with any bytes below a refusal. Then the number of
- * rounds, the state of a refused open, and the version.
+ * in each round, done with each value, grade and count, every ballot, sheets of
+ * few and of many records, logs of which none, one and all broke the rules; as
+ * the library answers, and with any bytes below a refusal. Then a state and a
+ * station made of each other, the number of rounds, the state of a refused open,
+ * and the version.
  */
 #define _DEFAULT_SOURCE
 #include "check.h"
@@ -15,30 +16,33 @@
 #error "the version's numbers are for #if too"
 #endif
 
-enum { NONE = 255, MOST_T = 10, NUMBERS = 15 };
+enum { NONE = 255, MOST_T = 10, MOST_ROUNDS = 36, NUMBERS = 15 };
 
 /* What the helpers make of an answer, but for the state. */
 struct parts {
     uint32_t refusal;
-    int ballot, done, running, round, value, grade, flag;
+    int ballot, done, running, round, value, grade, flag, garbled;
 };
 
 /* 1 if the helpers make this of it; says the first few that differ. */
 static int held(uint64_t a, struct parts want)
 {
     static int told;
-    struct parts got = {vembopu_refusal(a), vembopu_ballot_byte(a), vembopu_done(a),  vembopu_running(a),
-                        vembopu_round(a),   vembopu_value(a),       vembopu_grade(a), vembopu_flag(a)};
-    if (memcmp(&got, &want, sizeof got) == 0 && vembopu_state(a) == (uint32_t)a)
+    struct parts got = {vembopu_refusal(a), vembopu_ballot_byte(a), vembopu_done(a),
+                        vembopu_running(a), vembopu_round(a),       vembopu_value(a),
+                        vembopu_grade(a),   vembopu_flag(a),        vembopu_garbled(a)};
+    if (memcmp(&got, &want, sizeof got) == 0 && vembopu_state(a) == a % ((uint64_t)1 << 40))
         return 1;
     if (told++ < MOST_TOLD)
-        printf("%016llx: refusal %lu ballot %d done %d running %d round %d value %d grade %d flag %d state %08lx\n",
+        printf("%016llx: refusal %lu ballot %d done %d running %d round %d value %d grade %d flag %d garbled %d "
+               "state %010llx\n",
                (unsigned long long)a, (unsigned long)got.refusal, got.ballot, got.done, got.running, got.round,
-               got.value, got.grade, got.flag, (unsigned long)vembopu_state(a));
+               got.value, got.grade, got.flag, got.garbled, (unsigned long long)vembopu_state(a));
     return 0;
 }
 
-/* 1 if a hurried caller comes out on the safe side: a flag, and no value. */
+/* 1 if a hurried caller comes out on the safe side: a flag, no value, and no
+   count that there can be. */
 static int undecided(uint64_t a)
 {
     int safe = 1;
@@ -48,12 +52,14 @@ static int undecided(uint64_t a)
         safe = 0;
     if (vembopu_grade(a) == 2 || vembopu_grade(a) == 1)
         safe = 0;
+    if (vembopu_garbled(a) <= MOST_ROUNDS)
+        safe = 0;
     return safe;
 }
 
 static int held_refused(uint64_t a, uint32_t number)
 {
-    const struct parts want = {number, NONE, 0, 0, 0, NONE, NONE, NONE};
+    const struct parts want = {number, NONE, 0, 0, 0, NONE, NONE, NONE, NONE};
     return held(a, want) && undecided(a) && vembopu_needed_bytes(a) == 0 && vembopu_records(a) == 0 &&
            vembopu_broke(a) == 0xffffffffu;
 }
@@ -78,31 +84,40 @@ static void refused_calls(const struct call *c, uint32_t number)
 
 static void refused_by_each(void)
 {
-    /* n, t, T, sender, own, value, round, x, z, grade */
+    /* n, t, T, sender, own, value, round, x, z, grade, garbled */
     static const struct call calls[] = {
-        {33, 1, 1, 1, 1, 1, 1, 1, 1, 1, NULL, 0}, {4, 2, 1, 1, 1, 1, 1, 1, 1, 1, NULL, 0},
-        {4, 1, 1, 5, 1, 1, 1, 1, 1, 1, NULL, 0},  {4, 1, 1, 1, 1, 2, 1, 1, 1, 1, NULL, 0},
-        {4, 1, 1, 1, 1, 1, 1, 2, 1, 1, NULL, 0},  {4, 1, 1, 1, 1, 1, 1, 1, 1, 1, NULL, 0},
+        {33, 1, 1, 1, 1, 1, 1, 1, 1, 1, 0, NULL, 0}, {4, 2, 1, 1, 1, 1, 1, 1, 1, 1, 0, NULL, 0},
+        {4, 1, 1, 5, 1, 1, 1, 1, 1, 1, 0, NULL, 0},  {4, 1, 1, 1, 1, 2, 1, 1, 1, 1, 0, NULL, 0},
+        {4, 1, 1, 1, 1, 1, 1, 2, 1, 1, 0, NULL, 0},  {4, 1, 1, 1, 1, 1, 1, 1, 1, 1, 1, NULL, 0},
+        {4, 1, 1, 1, 1, 1, 1, 1, 1, 1, 0, NULL, 0},
     };
-    static const uint32_t number[] = {2, 3, 4, 5, 7, 8};
-    for (int i = 0; i < 6; i++)
+    static const uint32_t number[] = {2, 3, 4, 5, 7, 7, 8};
+    for (size_t i = 0; i < COUNT(calls); i++)
         refused_calls(&calls[i], number[i]);
 }
 
-/* The bytes of every accepted answer are among these. */
+/* Seven bytes, each one of four, by the digits of a number. */
+static uint64_t bytes7(int i)
+{
+    static const uint64_t byte[] = {0, 1, 2, 255};
+    uint64_t bytes = 0;
+    for (int at = 0; at < 7; at++)
+        bytes |= byte[i >> 2 * at & 3] << 8 * at;
+    return bytes;
+}
+
+/* The bytes of most accepted answers are among these. */
 static void refused_with_bytes(void)
 {
-    static const int byte[] = {0, 1, 2, 255};
     for (uint32_t number = 1; number < NUMBERS; number++) {
         int same = 1;
-        for (int i = 0; i < 256; i++) {
-            uint32_t below = bytes4(byte[i % 4], byte[i / 4 % 4], byte[i / 16 % 4], byte[i / 64]);
-            same = held_refused(answer((int)number, below), number) && same;
-        }
+        for (int i = 0; i < 1 << 14; i++)
+            same = held_refused(answer((int)number, bytes7(i)), number) && same;
         check(same, "refused by %u, with any bytes", number);
     }
-    check(held_refused(UINT64_MAX, UINT32_MAX), "all ones");
-    check(held_refused((uint64_t)1 << 63, (uint32_t)1 << 31), "the highest bit");
+    check(held_refused(UINT64_MAX, 255), "all ones");
+    check(held_refused((uint64_t)1 << 63, 128), "the highest bit");
+    check(held_refused((uint64_t)1 << 56, 1), "the highest byte's lowest bit");
 }
 
 /* ---- Accepted ---- */
@@ -112,39 +127,57 @@ static void running(void)
 {
     for (uint8_t t = 0; t <= MOST_T; t++)
         for (int round = 1; round <= rounds(t); round++) {
-            const struct parts want = {0, NONE, 0, 1, round, NONE, NONE, NONE};
-            uint64_t a = vembopu_result(32, t, MOST_T, 1, 1, bytes4(round, 1, 1, 2));
+            const struct parts want = {0, NONE, 0, 1, round, NONE, NONE, NONE, NONE};
+            uint64_t a = vembopu_result(32, t, MOST_T, 1, 1, bytes5(round, 1, 1, 2, round - 1));
             check(held(a, want) && undecided(a), "t %d, running in round %d", t, round);
         }
 }
 
+/* With each count, 0 to R. */
 static void done(void)
 {
     for (uint8_t t = 0; t <= MOST_T; t++)
-        for (int i = 0; i < 6; i++) {
-            const struct parts want = {0, NONE, 1, 0, 0, i % 2, i / 2, i / 2 < 2};
-            uint64_t a = vembopu_result(32, t, MOST_T, 1, 1, bytes4(rounds(t) + 1, i % 2, 2, i / 2));
-            check(held(a, want), "t %d, done with value %d, grade %d", t, i % 2, i / 2);
+        for (int i = 0; i < 6 * (rounds(t) + 1); i++) {
+            int value = i % 2, grade = i / 2 % 3, count = i / 6;
+            const struct parts want = {0, NONE, 1, 0, 0, value, grade, grade < 2, count};
+            uint64_t a = vembopu_result(32, t, MOST_T, 1, 1, bytes5(rounds(t) + 1, value, 2, grade, count));
+            check(held(a, want), "t %d, done with value %d, grade %d, count %d", t, value, grade, count);
         }
+}
+
+/* An answer that is accepted, and more than a result: neither done nor running. */
+static void more_than_result(void)
+{
+    uint64_t done = vembopu_result(32, 10, 10, 1, 1, bytes5(37, 1, 2, 2, 36));
+    uint64_t running = vembopu_result(32, 10, 10, 1, 1, bytes5(36, 1, 2, 2, 35));
+    for (int at = 40; at < 56; at++) {
+        uint64_t bit = (uint64_t)1 << at;
+        check(undecided(done | bit) && !vembopu_done(done | bit), "done, and bit %d", at);
+    }
+    for (int at = 16; at < 56; at++) {
+        uint64_t bit = (uint64_t)1 << at;
+        check(vembopu_round(running | bit) == 0 && !vembopu_running(running | bit), "running, and bit %d", at);
+    }
 }
 
 /* The sender's value, a z, and a station that doesn't speak. */
 static void ballots(void)
 {
     for (int x = 0; x < 2; x++)
-        check(vembopu_ballot_byte(vembopu_ballot(4, 1, 1, 1, 1, bytes4(1, x, 2, 0))) == x, "ballot %d", x);
+        check(vembopu_ballot_byte(vembopu_ballot(4, 1, 1, 1, 1, bytes5(1, x, 2, 0, 0))) == x, "ballot %d", x);
     for (int z = 0; z < 3; z++)
-        check(vembopu_ballot_byte(vembopu_ballot(4, 1, 1, 1, 2, bytes4(3, 1, z, 0))) == z, "ballot z %d", z);
-    check(vembopu_ballot_byte(vembopu_ballot(4, 1, 1, 1, 2, bytes4(1, 1, 2, 0))) == 255, "no ballot");
+        check(vembopu_ballot_byte(vembopu_ballot(4, 1, 1, 1, 2, bytes5(3, 1, z, 0, 2))) == z, "ballot z %d", z);
+    check(vembopu_ballot_byte(vembopu_ballot(4, 1, 1, 1, 2, bytes5(1, 1, 2, 0, 0))) == 255, "no ballot");
     for (int x = 0; x < 2; x++)
-        check(undecided(vembopu_ballot(4, 1, 1, 1, 1, bytes4(1, x, 2, 0))), "the answer of a ballot %d as a result", x);
+        check(undecided(vembopu_ballot(4, 1, 1, 1, 1, bytes5(1, x, 2, 0, 0))), "the answer of a ballot %d as a result",
+              x);
     check(VEMBOPU_BLANK == 2 && VEMBOPU_SILENCE == 255 && VEMBOPU_NOTHING == 255, "the names of bytes");
 }
 
 /* No result is 0, but a variable may be. */
 static void zero(void)
 {
-    const struct parts want = {0, 0, 0, 1, 0, NONE, NONE, NONE};
+    const struct parts want = {0, 0, 0, 1, 0, NONE, NONE, NONE, NONE};
     check(held(0, want) && undecided(0), "an answer of zero");
 }
 
@@ -200,9 +233,25 @@ static void sets(void)
     broke(0xffffffffu);
 }
 
+/* ---- A state and a station ---- */
+
+/* The station has the state's five bytes, whatever stands above them; an answer
+   is a state as it is. */
+static void states(void)
+{
+    static const uint8_t bytes[] = {32, 10, 10, 7, 9, 0xa1, 0xb2, 0xc3, 0xd4, 0xe5};
+    uint64_t state = bytes5(0xa1, 0xb2, 0xc3, 0xd4, 0xe5), more = state | (uint64_t)0xf6f7f8 << 40;
+    struct vembopu_station s = vembopu_station_of(32, 10, 10, 7, 9, state);
+    struct vembopu_station same = vembopu_station_of(32, 10, 10, 7, 9, more);
+    check(sizeof s == sizeof bytes && memcmp(&s, bytes, sizeof s) == 0, "a station of a state");
+    check(memcmp(&s, &same, sizeof s) == 0, "a station of a state with more above it");
+    check(vembopu_state_of(&s) == state && vembopu_state(more) == state, "its state");
+    check(VEMBOPU_OUTCOME == 4, "the bytes of an outcome");
+}
+
 /* ---- A refused open's state ---- */
 
-static void refused_by(uint8_t n, uint8_t t, uint8_t T, uint8_t own, uint32_t state, uint32_t number)
+static void refused_by(uint8_t n, uint8_t t, uint8_t T, uint8_t own, uint64_t state, uint32_t number)
 {
     const uint8_t row[4] = {0};
     struct vembopu_station s = vembopu_station_of(n, t, T, 1, own, state);
@@ -235,7 +284,7 @@ static void number_of_rounds(void)
     for (int t = 0; t < 256; t++)
         check(vembopu_rounds((uint8_t)t) == rounds(t), "t %d: %d rounds", t, vembopu_rounds((uint8_t)t));
     for (uint8_t t = 0; t <= MOST_T; t++) {
-        uint32_t last = (uint32_t)vembopu_rounds(t);
+        uint64_t last = (uint64_t)vembopu_rounds(t);
         check(vembopu_running(vembopu_result(32, t, MOST_T, 1, 1, last)), "t %d: not running in round R", t);
         check(vembopu_done(vembopu_result(32, t, MOST_T, 1, 1, last + 1)), "t %d: not done after round R", t);
         check(vembopu_refusal(vembopu_result(32, t, MOST_T, 1, 1, last + 2)) == 7, "t %d: a round more", t);
@@ -255,10 +304,12 @@ int main(void)
     refused_with_bytes();
     running();
     done();
+    more_than_result();
     ballots();
     zero();
     sheets();
     sets();
+    states();
     after_refused_open();
     number_of_rounds();
     version();

@@ -2,18 +2,28 @@
  * The sketch inbox.h: each rule by itself, then whole lines by the clock. The
  * stations start at different times, and what they send takes different times.
  * Ballots come early and more than once; bad stations also send what has to be
- * dropped. Every outcome is held to the rehearsal's.
+ * dropped, and what is no message. Every outcome is held to the rehearsal's.
  */
 #define _DEFAULT_SOURCE
 #include "check.h"
 #include "exports.h"
 #include "inbox.h"
 
-enum { RUN = 7, MOST = 8, LARGEST = 12 * MOST * MOST, LINES = 300 };
+/* The number of the run; that of what is no message. */
+enum { RUN = 7, BROKEN = 0 };
+enum { MOST = 8, LARGEST = 12 * MOST * MOST, LINES = 300 };
 
 /* The clock's ticks: between the starts of two stations, to send, on the way;
    and the round that README.md makes of them. */
 enum { APART = 5, SENDING = 3, WAY = 4, ROUND = APART + SENDING + WAY + 1, QUEUE = 65536 };
+
+static void arrive(struct inbox *in, uint8_t port, const struct inbox_message *m)
+{
+    if (m->run == BROKEN)
+        inbox_garbled(in, port);
+    else
+        inbox_take(in, port, m);
+}
 
 /* ---- Each rule ---- */
 
@@ -27,7 +37,7 @@ static void rule(const char *what, int ahead, const struct inbox_message *m, con
     inbox_next(&in);
     inbox_next(&in);
     for (int k = 0; k < count; k++)
-        inbox_take(&in, port[k], &m[k]);
+        arrive(&in, port[k], &m[k]);
     for (int k = 0; k < ahead; k++)
         inbox_next(&in);
     check(memcmp(inbox_row(&in, 9), want, 4) == 0, "%s: %d %d %d %d", what, in.row[0][0], in.row[0][1], in.row[0][2],
@@ -63,6 +73,30 @@ static void rules(void)
     rule("a garbled byte", 0, byte, port, 1, garbled);
 }
 
+/* What is no message counts for nothing where a ballot came. */
+static void broken_rules(void)
+{
+    static const uint8_t port[] = {1, 1}, own[] = {2}, zero[] = {0}, above[] = {5}, far_above[] = {255};
+    static const uint8_t none[] = {255, 9, 255, 255}, one[] = {1, 9, 255, 255}, broken[] = {254, 9, 255, 255};
+    static const struct inbox_message no[] = {{BROKEN, 0, 0, 0}, {BROKEN, 0, 0, 0}};
+    static const struct inbox_message before[] = {{BROKEN, 0, 0, 0}, {RUN, 3, 1, 1}};
+    static const struct inbox_message behind[] = {{RUN, 3, 1, 1}, {BROKEN, 0, 0, 0}};
+    static const struct inbox_message early[] = {{RUN, 4, 1, 1}, {BROKEN, 0, 0, 0}};
+    static const struct inbox_message late[] = {{RUN, 2, 1, 1}, {BROKEN, 0, 0, 0}};
+    rule("no message", 0, no, port, 1, broken);
+    rule("no message, twice", 0, no, port, 2, broken);
+    rule("no message, in the round after", 1, no, port, 1, none);
+    rule("no message, then a ballot", 0, before, port, 2, one);
+    rule("a ballot, then no message", 0, behind, port, 2, one);
+    rule("an early ballot, and no message now", 0, early, port, 2, broken);
+    rule("an early ballot, and no message before", 1, early, port, 2, one);
+    rule("a late ballot, then no message", 0, late, port, 2, broken);
+    rule("no message on its own port", 0, no, own, 1, none);
+    rule("no message on port 0", 0, no, zero, 1, none);
+    rule("no message on a port above n", 0, no, above, 1, none);
+    rule("no message on port 255", 0, no, far_above, 1, none);
+}
+
 /* ---- The wire ---- */
 
 struct line {
@@ -77,7 +111,8 @@ static struct letter {
     struct inbox_message m;
 } queue[QUEUE];
 static int queued;
-static uint8_t table[LARGEST], logged[LARGEST], outcomes[3 * MOST];
+static uint8_t table[LARGEST], logged[LARGEST], outcomes[VEMBOPU_OUTCOME * MOST];
+static unsigned long counted; /* good stations with a garbled round */
 
 static int is_bad(const struct line *l, int i)
 {
@@ -105,13 +140,16 @@ static void send_all(const struct line *l, int i, int round, int ballot, int now
 }
 
 /* What bad station i sends to j for a round: the table's byte, in that round or
-   the one before; and more, all of which has to be dropped. */
+   the one before, or what is no message; and more, all of which has to be
+   dropped. */
 static void send_bad(const struct line *l, int i, int j, int round)
 {
     int begins = l->start[j] + (round - 1) * ROUND, early = round > 1 && draw(4) == 0 ? ROUND : 0;
     int time = begins - early + (int)draw(ROUND), byte = table[((round - 1) * l->n + i - 1) * l->n + j - 1];
     int other = 1 + (int)draw(l->n);
-    if (byte != VEMBOPU_SILENCE) {
+    if (byte != VEMBOPU_SILENCE)
+        post(begins + (int)draw(ROUND), j, i, BROKEN, 0, 0, 0);
+    if (byte != VEMBOPU_SILENCE && byte != INBOX_GARBLED) {
         post(time, j, i, RUN, round, i, byte);
         post(time + 1 + (int)draw(ROUND), j, i, RUN, round, i, (int)draw(3));
     }
@@ -158,7 +196,7 @@ static int tick(const struct line *l, int now)
     }
     for (int k = 0; k < queued; k++)
         if (queue[k].time == now && !is_bad(l, queue[k].to))
-            inbox_take(&box[queue[k].to], queue[k].port, &queue[k].m);
+            arrive(&box[queue[k].to], queue[k].port, &queue[k].m);
     return well;
 }
 
@@ -166,7 +204,7 @@ static void open_all(const struct line *l)
 {
     queued = 0;
     for (int j = 1; j <= l->n; j++) {
-        uint32_t state = vembopu_state(vembopu_open(l->n, l->t, l->T, l->sender, (uint8_t)j, l->value));
+        uint64_t state = vembopu_state(vembopu_open(l->n, l->t, l->T, l->sender, (uint8_t)j, l->value));
         station[j] = vembopu_station_of(l->n, l->t, l->T, l->sender, (uint8_t)j, state);
         inbox_open(&box[j], RUN, l->n, (uint8_t)j);
         for (int k = 0; k < l->n * vembopu_rounds(l->t); k++)
@@ -179,11 +217,12 @@ static int as_rehearsed(const struct line *l)
 {
     size_t len = (size_t)vembopu_rounds(l->t) * l->n * l->n;
     int same = vembopu_rehearse(l->n, l->t, l->T, l->sender, l->value, l->marks, table, len, logged, len, outcomes,
-                                (size_t)3 * l->n) == 0;
+                                (size_t)VEMBOPU_OUTCOME * l->n) == 0;
     for (int i = 1; i <= l->n; i++) {
         uint64_t a = result_of(&station[i]);
-        const uint8_t got[3] = {vembopu_value(a), vembopu_grade(a), vembopu_flag(a)};
-        same = same && (is_bad(l, i) || memcmp(got, outcomes + 3 * (i - 1), 3) == 0);
+        const uint8_t got[VEMBOPU_OUTCOME] = {vembopu_value(a), vembopu_grade(a), vembopu_flag(a), vembopu_garbled(a)};
+        same = same && (is_bad(l, i) || memcmp(got, outcomes + VEMBOPU_OUTCOME * (i - 1), sizeof got) == 0);
+        counted += !is_bad(l, i) && vembopu_garbled(a) > 0;
     }
     return same;
 }
@@ -199,7 +238,7 @@ static int run(const struct line *l)
 
 static void by_lot(void)
 {
-    static const uint8_t code[] = {0, 1, 2, 255};
+    static const uint8_t code[] = {0, 1, 2, 255, INBOX_GARBLED, 77};
     for (int k = 0; k < LINES; k++) {
         struct line l = {(uint8_t)(2 + draw(MOST - 1)), 0, 0, 0, (uint8_t)draw(2), 0, {0}};
         l.T = (uint8_t)draw((uint32_t)(l.n - 1) / 2 + 1);
@@ -209,7 +248,7 @@ static void by_lot(void)
         for (int i = 1; i <= l.n; i++)
             l.start[i] = (int)draw(APART + 1);
         for (int i = 0; i < LARGEST; i++)
-            table[i] = code[draw(4)];
+            table[i] = code[draw(k % 2 == 0 ? 4 : 6)];
         check(run(&l), "line %d: n %d t %d T %d sender %d value %d marks %lx", k, l.n, l.t, l.T, l.sender, l.value,
               (unsigned long)l.marks);
     }
@@ -218,6 +257,8 @@ static void by_lot(void)
 int main(void)
 {
     rules();
+    broken_rules();
     by_lot();
+    check(counted > 0, "no station has a garbled round");
     return closing_count();
 }

@@ -4,7 +4,8 @@
  *
  *     open the station and the inbox; in each round: ballot, send it to all
  *     unless it is 255; until the round's end by the clock, inbox_take what
- *     comes; advance by inbox_row, then inbox_next.
+ *     comes, and inbox_garbled where that is no message; advance by inbox_row,
+ *     then inbox_next.
  */
 #ifndef VEMBOPU_INBOX_H
 #define VEMBOPU_INBOX_H
@@ -23,11 +24,18 @@ struct inbox_message {
     uint8_t round, from, ballot;
 };
 
-/* The rows of this round and of the next one, 255 where nothing came. */
+/* What stands in a row where only something garbled came: a byte that has no
+   meaning in any round. */
+enum {
+    INBOX_GARBLED = 254
+};
+
+/* The rows of this round and of the next one, 255 where nothing came, and where
+   something garbled came in this round. */
 struct inbox {
     uint32_t run;
     uint8_t n, own, round;
-    uint8_t row[2][32];
+    uint8_t row[2][32], garbled[32];
 };
 
 /* Before round 1, with n and own of an accepted open. */
@@ -39,6 +47,7 @@ static inline void inbox_open(struct inbox *in, uint32_t run, uint8_t n,
     in->own = own;
     in->round = 1;
     memset(in->row, VEMBOPU_SILENCE, sizeof in->row);
+    memset(in->garbled, 0, sizeof in->garbled);
 }
 
 /* What came on the port of station `port`, which nobody else can use. */
@@ -54,10 +63,22 @@ static inline void inbox_take(struct inbox *in, uint8_t port,
         in->row[ahead][port - 1] = m->ballot;
 }
 
-/* At the end of a round: its row, n bytes, the own ballot in its place whatever
+/* What came on that port is no message: of a wrong length, or with a wrong
+   checksum. Nothing of it can be used, its round neither. */
+static inline void inbox_garbled(struct inbox *in, uint8_t port)
+{
+    if (port >= 1 && port <= in->n)
+        in->garbled[port - 1] = 1;
+}
+
+/* At the end of a round: its row, n bytes. Where only something garbled came,
+   the row says so, and isn't silent; the own ballot is in its place whatever
    came there. */
 static inline const uint8_t *inbox_row(struct inbox *in, uint8_t ballot)
 {
+    for (int i = 0; i < in->n; i++)
+        if (in->garbled[i] && in->row[0][i] == VEMBOPU_SILENCE)
+            in->row[0][i] = INBOX_GARBLED;
     in->row[0][in->own - 1] = ballot;
     return in->row[0];
 }
@@ -67,6 +88,7 @@ static inline void inbox_next(struct inbox *in)
 {
     memcpy(in->row[0], in->row[1], sizeof in->row[0]);
     memset(in->row[1], VEMBOPU_SILENCE, sizeof in->row[1]);
+    memset(in->garbled, 0, sizeof in->garbled);
     in->round++;
 }
 

@@ -5,13 +5,15 @@
 #ifndef INPUTS_H
 #define INPUTS_H
 
-#include <stddef.h>
-#include <stdint.h>
+#include "exports.h"
+
 #include <string.h>
 
 /* The lengths of the largest line's buffers, and the last of 4,096 records. */
 enum { HEADER = 12, RECORD = 8, MOST_RECORDS = 4096, LAST = HEADER + RECORD * (MOST_RECORDS - 1) };
-enum { SHEET = LAST + RECORD, TABLE = 36864, OUTCOMES = 96, INPUTS = 32, EXCHANGE_TABLE = 2048 };
+enum { SHEET = LAST + RECORD, TABLE = 36864, OUTCOMES = VEMBOPU_OUTCOME * 32, INPUTS = 32, EXCHANGE_TABLE = 2048 };
+/* Outcomes as they were before the count. */
+enum { THREE_BYTES = 3 * 32 };
 
 /* A sheet of the largest line, all stations marked, with the first k bytes of
    the table as chained records: its length. */
@@ -124,6 +126,7 @@ static const struct rehearse_input rehearse_inputs[] = {
     {32, 10, 10, 1, 1, 0, TABLE - 1, TABLE, OUTCOMES, 8},
     {32, 10, 10, 1, 1, 0, TABLE, TABLE - 1, OUTCOMES, 8},
     {32, 10, 10, 1, 1, 0, TABLE, TABLE, OUTCOMES - 1, 8},
+    {32, 10, 10, 1, 1, 0, TABLE, TABLE, THREE_BYTES, 8},
 };
 
 struct check_input {
@@ -135,12 +138,13 @@ struct check_input {
 static const struct check_input check_inputs[] = {
     {32, 10, 10, 1, TABLE, OUTCOMES, 0},
     {32, 0, 15, 32, 6 * 32 * 32, OUTCOMES, 0},
-    {1, 0, 0, 1, 6, 3, 0},
+    {1, 0, 0, 1, 6, VEMBOPU_OUTCOME, 0},
     {33, 10, 10, 1, TABLE, OUTCOMES, 2},
     {32, 11, 11, 1, TABLE, OUTCOMES, 3},
     {32, 10, 10, 33, TABLE, OUTCOMES, 4},
     {32, 10, 10, 1, TABLE - 1, OUTCOMES, 8},
     {32, 10, 10, 1, TABLE, OUTCOMES - 1, 8},
+    {32, 10, 10, 1, TABLE, THREE_BYTES, 8},
 };
 
 /* An exchange in which station 1 has the input given here. */
@@ -162,6 +166,7 @@ static const struct exchange_input exchange_inputs[] = {
     {32, 10, 10, 1, 0, INPUTS - 1, EXCHANGE_TABLE, OUTCOMES, 8},
     {32, 10, 10, 1, 0, INPUTS, EXCHANGE_TABLE - 1, OUTCOMES, 8},
     {32, 10, 10, 1, 0, INPUTS, EXCHANGE_TABLE, OUTCOMES - 1, 8},
+    {32, 10, 10, 1, 0, INPUTS, EXCHANGE_TABLE, THREE_BYTES, 8},
 };
 
 #define COUNT(array) (sizeof(array) / sizeof((array)[0]))

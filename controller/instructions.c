@@ -77,11 +77,11 @@ static uint32_t write_sheet(uint32_t k)
 
 static struct vembopu_station station(uint32_t round)
 {
-    struct vembopu_station s = {NUMBERS, (uint8_t)round, 1, 1, 0};
+    struct vembopu_station s = {NUMBERS, (uint8_t)round, 1, 1, 0, 0};
     return s;
 }
 
-static uint32_t state(uint32_t round)
+static uint64_t state(uint32_t round)
 {
     struct vembopu_station s = station(round);
     return vembopu_state_of(&s);

@@ -24,13 +24,16 @@ struct line {
 };
 
 /* What a station tells the wire: running, round, ballot; or done, value,
-   grade, flag; or refused, number. */
+   grade, flag, garbled; or refused, number. */
 enum { RUNNING, DONE, REFUSED };
+enum { MESSAGE = 1 + VEMBOPU_OUTCOME };
 
-static uint8_t table[LARGEST], logged[LARGEST], outcomes[3 * MOST];
+static uint8_t table[LARGEST], logged[LARGEST], outcomes[VEMBOPU_OUTCOME * MOST];
 static int end_of[MOST + 1];    /* the wire's end to station i, -1 for none */
 static pid_t process[MOST + 1]; /* 0 for none */
 static unsigned long lines, ballots, decided;
+enum { COUNTS = 37 };
+static unsigned long counted[COUNTS]; /* good stations by their count, 0 to 36 */
 
 static int rounds(const struct line *l)
 {
@@ -79,9 +82,16 @@ static int write_all(int fd, const uint8_t *bytes, size_t len)
 
 /* ---- A station's process ---- */
 
-static int tell(int fd, int kind, int a, int b, int c)
+static int tell(int fd, int kind, int a, int b)
 {
-    uint8_t message[4] = {(uint8_t)kind, (uint8_t)a, (uint8_t)b, (uint8_t)c};
+    uint8_t message[MESSAGE] = {(uint8_t)kind, (uint8_t)a, (uint8_t)b};
+    return write_all(fd, message, sizeof message);
+}
+
+static int tell_done(int fd, uint64_t result)
+{
+    uint8_t message[MESSAGE] = {DONE, vembopu_value(result), vembopu_grade(result), vembopu_flag(result),
+                                vembopu_garbled(result)};
     return write_all(fd, message, sizeof message);
 }
 
@@ -94,23 +104,23 @@ static void station(const struct line *l, uint8_t own, int wire)
     uint8_t value = own == l->sender ? l->value : own & 1;
     uint64_t a = vembopu_open(l->n, l->t, l->T, l->sender, own, value);
     while (vembopu_refusal(a) == 0) {
-        uint32_t state = vembopu_state(a);
+        uint64_t state = vembopu_state(a);
         uint64_t result = vembopu_result(l->n, l->t, l->T, l->sender, own, state);
         if (vembopu_done(result)) {
-            tell(wire, DONE, vembopu_value(result), vembopu_grade(result), vembopu_flag(result));
+            tell_done(wire, result);
             return;
         }
         uint64_t b = vembopu_ballot(l->n, l->t, l->T, l->sender, own, state);
         a = vembopu_refusal(result) ? result : b;
         if (vembopu_refusal(a) != 0)
             break;
-        if (!tell(wire, RUNNING, vembopu_round(result), vembopu_ballot_byte(b), 0))
+        if (!tell(wire, RUNNING, vembopu_round(result), vembopu_ballot_byte(b)))
             return;
         if (!read_all(wire, row, l->n))
             return;
         a = vembopu_advance(l->n, l->t, l->T, l->sender, own, state, row, l->n);
     }
-    tell(wire, REFUSED, (int)vembopu_refusal(a), 0, 0);
+    tell(wire, REFUSED, (int)vembopu_refusal(a), 0);
 }
 
 /* ---- The processes of a line ---- */
@@ -179,7 +189,7 @@ static int differs(const struct line *l, int r, int i, const char *what)
 static int take_ballots(const struct line *l, int r, uint8_t *said)
 {
     for (int i = 1; i <= l->n; i++) {
-        uint8_t m[4];
+        uint8_t m[MESSAGE];
         if (is_bad(l, i)) {
             if (memcmp(logged + place(l, r, i, 1), table + place(l, r, i, 1), l->n) != 0)
                 return differs(l, r, i, "a bad station's bytes are not the table's");
@@ -215,13 +225,14 @@ static int take_outcomes(const struct line *l)
 {
     int done = rounds(l) + 1;
     for (int i = 1; i <= l->n; i++, decided++) {
-        uint8_t m[4] = {DONE, 255, 255, 255}; /* a bad station's */
+        uint8_t m[MESSAGE] = {DONE, 255, 255, 255, 255}; /* a bad station's */
         if (!is_bad(l, i) && !read_all(end_of[i], m, sizeof m))
             return differs(l, done, i, "no outcome");
         if (m[0] != DONE)
             return differs(l, done, i, "not done after R rows");
-        if (memcmp(outcomes + 3 * (i - 1), m + 1, 3) != 0)
+        if (memcmp(outcomes + VEMBOPU_OUTCOME * (i - 1), m + 1, VEMBOPU_OUTCOME) != 0)
             return differs(l, done, i, "another outcome than the rehearsal's");
+        counted[m[4] % COUNTS] += !is_bad(l, i);
     }
     return 1;
 }
@@ -232,7 +243,7 @@ static int rehearsed(const struct line *l)
     memset(logged, 170, sizeof logged);
     memset(outcomes, 170, sizeof outcomes);
     return vembopu_rehearse(l->n, l->t, l->T, l->sender, l->value, l->marks, table, len, logged, len,
-                            outcomes, (size_t)3 * l->n) == 0;
+                            outcomes, (size_t)VEMBOPU_OUTCOME * l->n) == 0;
 }
 
 static int run(const struct line *l)
@@ -257,7 +268,14 @@ static void check_line(const struct line *l)
 
 /* ---- What bad stations send ---- */
 
-enum { ANY, BITS, CODES, SPLIT, SILENT, TABLES };
+enum { ANY, BITS, CODES, SPLIT, SILENT, CARDS, TABLES };
+
+/* From silence with a garbled ballot here and there to garbled all along, by the
+   sender's number. */
+static uint8_t from_card(int from)
+{
+    return draw(32) < (uint32_t)from ? (uint8_t)(2 + draw(253)) : 255;
+}
 
 /* Good stations' places have any bytes: these have no effect. */
 static void draw_table(const struct line *l, int kind)
@@ -270,6 +288,8 @@ static void draw_table(const struct line *l, int kind)
             table[k] = (uint8_t)draw(256);
         else if (kind == SPLIT)
             table[k] = to < l->n / 2;
+        else if (kind == CARDS)
+            table[k] = from_card(from);
         else
             table[k] = kind == SILENT ? 255 : code[draw(kind == BITS ? 2 : 4)];
     }
@@ -350,7 +370,19 @@ static void by_lot(void)
 static void check_case(char name, const struct line *l, const uint8_t *want)
 {
     check_line(l);
-    check(memcmp(outcomes, want, (size_t)3 * l->n) == 0, "outcomes of case %c", name);
+    check(memcmp(outcomes, want, (size_t)VEMBOPU_OUTCOME * l->n) == 0, "outcomes of case %c", name);
+}
+
+/* Case A with garbled ballots from station 4 to station 1 in rounds 1 to 3, and
+   blanks to station 2. In round 1 it is not the sender, and in round 3 a blank
+   has a meaning. */
+static void garbled_case(const struct line *a)
+{
+    for (int r = 1; r <= 3; r++) {
+        table[place(a, r, 4, 1)] = 77;
+        table[place(a, r, 4, 2)] = 2;
+    }
+    check_case('A', a, (const uint8_t[]){1, 2, 0, 2, 1, 2, 0, 1, 1, 2, 0, 0, 255, 255, 255, 255});
 }
 
 static void cases(void)
@@ -359,18 +391,30 @@ static void cases(void)
     static const struct line d = {1, 0, 0, 1, 0, 0}, bad = {1, 0, 0, 1, 0, 1};
     static const int told[] = {1, 2, 3, 5, 6};
     memset(table, 255, sizeof table);
-    check_case('A', &a, (const uint8_t[]){1, 2, 0, 1, 2, 0, 1, 2, 0, 255, 255, 255});
+    check_case('A', &a, (const uint8_t[]){1, 2, 0, 0, 1, 2, 0, 0, 1, 2, 0, 0, 255, 255, 255, 255});
+    garbled_case(&a);
+    memset(table, 255, sizeof table);
     table[place(&b, 1, 4, 1)] = 1;
     table[place(&b, 1, 4, 2)] = table[place(&b, 1, 4, 3)] = 0;
-    check_case('B', &b, (const uint8_t[]){1, 1, 1, 1, 1, 1, 1, 1, 1, 255, 255, 255});
+    check_case('B', &b, (const uint8_t[]){1, 1, 1, 0, 1, 1, 1, 0, 1, 1, 1, 0, 255, 255, 255, 255});
     memset(table, 255, sizeof table);
     for (int k = 0; k < 5; k++) {
         table[place(&c, told[k], 1, 2)] = 0;
         table[place(&c, told[k], 1, 3)] = 1;
     }
-    check_case('C', &c, (const uint8_t[]){255, 255, 255, 0, 1, 1, 1, 1, 1});
-    check_case('D', &d, (const uint8_t[]){0, 2, 0});
-    check_case('D', &bad, (const uint8_t[]){255, 255, 255});
+    check_case('C', &c, (const uint8_t[]){255, 255, 255, 255, 0, 1, 1, 0, 1, 1, 1, 0});
+    check_case('D', &d, (const uint8_t[]){0, 2, 0, 0});
+    check_case('D', &bad, (const uint8_t[]){255, 255, 255, 255});
+}
+
+/* The counts that good stations ended with: none, and most that there can be. */
+static void check_counts(void)
+{
+    int kinds = 0;
+    for (int k = 0; k < COUNTS; k++)
+        kinds += counted[k] > 0;
+    printf("good stations without a garbled round: %lu; other counts that came: %d\n", counted[0], kinds - 1);
+    check(counted[0] > 0 && kinds > 25, "too few counts came: %d", kinds);
 }
 
 int main(void)
@@ -380,6 +424,7 @@ int main(void)
     largest();
     every_size();
     by_lot();
+    check_counts();
     printf("%lu lines: %lu ballots held to the log, %lu outcomes\n", lines, ballots, decided);
     return closing_count();
 }

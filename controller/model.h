@@ -1,6 +1,6 @@
 /*
  * The station's calls, the writer's and the checker's written once more, in C
- * from documents 01 and 02 (Tickets 1 to 3), for the tests: the judgement, the
+ * from documents 01 and 02 (Tickets 1 to 4), for the tests: the judgement, the
  * steps of a station that is accepted, the sheet that is written, and the set of
  * stations that broke the rules. Shares no code with the library.
  */
@@ -15,24 +15,27 @@
 struct call {
     int n, t, T, sender, own;
     int value;
-    int round, x, z, grade;
+    int round, x, z, grade, garbled;
     const uint8_t *row;
     size_t row_len;
 };
 
-static inline uint32_t bytes4(int a, int b, int c, int d)
+/* "The outcome becomes four bytes a station" */
+enum { OUTCOME = 4 };
+
+static inline uint64_t bytes5(int a, int b, int c, int d, int e)
 {
-    return (uint32_t)a | (uint32_t)b << 8 | (uint32_t)c << 16 | (uint32_t)d << 24;
+    return (uint64_t)a | (uint64_t)b << 8 | (uint64_t)c << 16 | (uint64_t)d << 24 | (uint64_t)e << 32;
 }
 
-static inline uint32_t state_bits(const struct call *c)
+static inline uint64_t state_bits(const struct call *c)
 {
-    return bytes4(c->round, c->x, c->z, c->grade);
+    return bytes5(c->round, c->x, c->z, c->grade, c->garbled);
 }
 
-static inline uint64_t answer(int refusal, uint32_t values)
+static inline uint64_t answer(int refusal, uint64_t values)
 {
-    return (uint64_t)refusal << 32 | values;
+    return (uint64_t)refusal << 56 | values;
 }
 
 static inline int rounds(int t)
@@ -71,7 +74,8 @@ static inline int judge_result(const struct call *c)
         return 7;
     if (c->x > 1 || c->z > 2 || c->grade > 2)
         return 7;
-    return 0;
+    /* "A state whose count is not below its round is refused by 7." */
+    return c->garbled < c->round ? 0 : 7;
 }
 
 static inline int judge_ballot(const struct call *c)
@@ -143,9 +147,39 @@ static inline void second_row(struct call *c)
     c->grade = count >= c->n - c->t ? 2 : count >= c->n - c->T ? 1 : 0;
 }
 
+/* ---- "Garbled is not silent" ---- */
+
+/* "A byte is garbled if it is not 255 and its round has no meaning for it; blank
+   is garbled outside the second round of an exchange." */
+static inline int is_garbled(int round, uint8_t byte)
+{
+    if (byte == 2)
+        return round % 3 != 0;
+    return byte > 2 && byte < 255;
+}
+
+/* "from all in exchange rounds, else from the sender or the king" */
+static inline int is_expected(const struct call *c, int from)
+{
+    if (c->round == 1)
+        return from == c->sender;
+    return king_of(c->round) == 0 || from == king_of(c->round);
+}
+
+/* "A station counts the rounds in which at least one ballot it expected was
+   garbled" */
+static inline void count_garbled(struct call *c)
+{
+    int some = 0;
+    for (int from = 1; from <= c->n; from++)
+        some = some || (is_expected(c, from) && is_garbled(c->round, c->row[from - 1]));
+    c->garbled += some;
+}
+
 /* What a row doesn't set stays. */
 static inline void take_row(struct call *c)
 {
+    count_garbled(c);
     if (c->round == 1)
         c->x = senders_bit(c->row[c->sender - 1]);
     else if (c->round % 3 == 2)
@@ -162,13 +196,13 @@ static inline void take_row(struct call *c)
 static inline uint64_t model_open(const struct call *c)
 {
     int number = judge_open(c);
-    return answer(number, number ? 0 : bytes4(1, c->value, 2, 0));
+    return answer(number, number ? 0 : bytes5(1, c->value, 2, 0, 0));
 }
 
 static inline uint64_t model_ballot(const struct call *c)
 {
     int number = judge_ballot(c);
-    return answer(number, number ? 0 : (uint32_t)ballot_of(c));
+    return answer(number, number ? 0 : (uint64_t)ballot_of(c));
 }
 
 static inline uint64_t model_advance(const struct call *c)
@@ -186,8 +220,8 @@ static inline uint64_t model_result(const struct call *c)
     if (number != 0)
         return answer(number, 0);
     if (c->round <= rounds(c->t))
-        return answer(0, bytes4(0, c->round, 0, 0));
-    return answer(0, bytes4(1, c->x, c->grade, c->grade < 2));
+        return answer(0, bytes5(0, c->round, 0, 0, 0));
+    return answer(0, bytes5(1, c->x, c->grade, c->grade < 2, c->garbled));
 }
 
 /* ---- The writer of run sheets: document 02, Ticket 1 ---- */
@@ -211,7 +245,7 @@ static inline int judge_header(const uint8_t *header, size_t len)
 {
     if (len != 12 || header[5] != 0)
         return 1;
-    struct call c = {header[0], header[1], header[2], header[3], header[3], header[4], 0, 0, 0, 0, NULL, 0};
+    struct call c = {header[0], header[1], header[2], header[3], header[3], header[4], 0, 0, 0, 0, 0, NULL, 0};
     int number = judge_open(&c);
     for (int i = c.n + 1; number == 0 && i <= 32; i++)
         if (is_marked(header, i))
@@ -278,7 +312,7 @@ static inline int judge_write(const struct writing *w)
 static inline uint64_t model_sheet_len(const struct writing *w)
 {
     int number = judge_sheet_len(w);
-    return answer(number, number ? 0 : (uint32_t)(12 + 8 * records_of(w)));
+    return answer(number, number ? 0 : 12 + 8 * records_of(w));
 }
 
 /* "none writes anything" */
@@ -292,7 +326,7 @@ static inline uint64_t model_write(const struct writing *w, uint8_t *sheet)
     sheet[6] = records_of(w) > 0;
     sheet[7] = 0;
     put_records(w, sheet + 12);
-    return answer(0, (uint32_t)records_of(w));
+    return answer(0, records_of(w));
 }
 
 /* ---- The checker of logs: document 02, Ticket 3 ---- */
@@ -307,11 +341,11 @@ struct checking {
 
 static inline int judge_check(const struct checking *k)
 {
-    struct call c = {k->n, k->t, k->T, k->sender, k->sender, 0, 0, 0, 0, 0, NULL, 0};
+    struct call c = {k->n, k->t, k->T, k->sender, k->sender, 0, 0, 0, 0, 0, 0, NULL, 0};
     int number = judge_numbers(&c);
     if (number != 0)
         return number;
-    if (k->log_len != (size_t)(rounds(k->t) * k->n * k->n) || k->outcomes_len != (size_t)(3 * k->n))
+    if (k->log_len != (size_t)(rounds(k->t) * k->n * k->n) || k->outcomes_len != (size_t)(OUTCOME * k->n))
         return 8;
     return 0;
 }
@@ -326,8 +360,8 @@ static inline uint8_t logged_byte(const struct checking *k, int round, int from,
 static inline int keeps_rules(const struct checking *k, int own, int value)
 {
     uint8_t row[32];
-    struct call c = {k->n, k->t, k->T, k->sender, own, value, 1, value, 2, 0, row, (size_t)k->n};
-    const uint8_t *end = k->outcomes + 3 * (own - 1);
+    struct call c = {k->n, k->t, k->T, k->sender, own, value, 1, value, 2, 0, 0, row, (size_t)k->n};
+    const uint8_t *end = k->outcomes + OUTCOME * (own - 1);
     int sent = 1;
     while (c.round <= rounds(c.t)) {
         for (int other = 1; other <= c.n; other++) {
@@ -336,7 +370,7 @@ static inline int keeps_rules(const struct checking *k, int own, int value)
         }
         take_row(&c);
     }
-    return sent && end[0] == c.x && end[1] == c.grade && end[2] == (c.grade < 2);
+    return sent && end[0] == c.x && end[1] == c.grade && end[2] == (c.grade < 2) && end[3] == c.garbled;
 }
 
 /* "A station is in it exactly if no value of its own" does. */

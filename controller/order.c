@@ -11,11 +11,11 @@
 
 #include <string.h>
 
-enum { BYTES = 9, BUFFERS = 3, SPACE = 128, UNWRITTEN = 170 };
+enum { NUMBERS = 5, BYTES = 10, BUFFERS = 3, SPACE = 128, UNWRITTEN = 170 };
 
 /* A call's arguments of one byte in the order of its header; after these the
-   state's round, value, z and grade, or the whole lent station alone; marks;
-   buffers. */
+   state's round, value, z, grade and garbled, or the whole lent station alone;
+   marks; buffers. */
 struct arguments {
     uint8_t byte[BYTES];
     uint32_t marks;
@@ -25,37 +25,39 @@ struct arguments {
 
 /* ---- The calls: each answers with its 64 bits, or with its number ---- */
 
-#define NUMBERS(a) (a)->byte[0], (a)->byte[1], (a)->byte[2], (a)->byte[3], (a)->byte[4]
+#define FIVE_NUMBERS(a) (a)->byte[0], (a)->byte[1], (a)->byte[2], (a)->byte[3], (a)->byte[4]
 #define BUFFER(a, k) (a)->at[k], (a)->len[k]
 
-/* Bytes 5 to 8 as a state. */
-static uint32_t state(const struct arguments *a)
+/* The bytes after the five numbers as a state. */
+static uint64_t state(const struct arguments *a)
 {
-    return (uint32_t)a->byte[5] | (uint32_t)a->byte[6] << 8 | (uint32_t)a->byte[7] << 16 |
-           (uint32_t)a->byte[8] << 24;
+    uint64_t bits = 0;
+    for (int k = NUMBERS; k < BYTES; k++)
+        bits |= (uint64_t)a->byte[k] << 8 * (k - NUMBERS);
+    return bits;
 }
 
 static uint64_t run_open(struct arguments *a)
 {
-    return vembopu_open(NUMBERS(a), a->byte[5]);
+    return vembopu_open(FIVE_NUMBERS(a), a->byte[5]);
 }
 
 static uint64_t run_ballot(struct arguments *a)
 {
-    return vembopu_ballot(NUMBERS(a), state(a));
+    return vembopu_ballot(FIVE_NUMBERS(a), state(a));
 }
 
 static uint64_t run_result(struct arguments *a)
 {
-    return vembopu_result(NUMBERS(a), state(a));
+    return vembopu_result(FIVE_NUMBERS(a), state(a));
 }
 
 /* The new state takes the old one's place. */
 static uint64_t run_advance(struct arguments *a)
 {
-    uint64_t answer = vembopu_advance(NUMBERS(a), state(a), BUFFER(a, 0));
-    for (int k = 0; k < 4; k++)
-        a->byte[5 + k] = (uint8_t)(vembopu_state(answer) >> 8 * k & 255);
+    uint64_t answer = vembopu_advance(FIVE_NUMBERS(a), state(a), BUFFER(a, 0));
+    for (int k = NUMBERS; k < BYTES; k++)
+        a->byte[k] = (uint8_t)(vembopu_state(answer) >> 8 * (k - NUMBERS) & 255);
     return vembopu_refusal(answer);
 }
 
@@ -63,7 +65,8 @@ static uint64_t run_advance(struct arguments *a)
 static uint64_t run_advance_lent(struct arguments *a)
 {
     struct vembopu_station s;
-    uint8_t *const field[BYTES] = {&s.n, &s.t, &s.upper, &s.sender, &s.own, &s.round, &s.value, &s.z, &s.grade};
+    uint8_t *const field[BYTES] = {&s.n,     &s.t,     &s.upper, &s.sender, &s.own,
+                                   &s.round, &s.value, &s.z,     &s.grade,  &s.garbled};
     for (int k = 0; k < BYTES; k++)
         *field[k] = a->byte[k];
     uint64_t number = vembopu_advance_lent(&s, BUFFER(a, 0));
@@ -89,7 +92,7 @@ static uint64_t run_write(struct arguments *a)
 
 static uint64_t run_rehearse(struct arguments *a)
 {
-    return vembopu_rehearse(NUMBERS(a), a->marks, BUFFER(a, 0), BUFFER(a, 1), BUFFER(a, 2));
+    return vembopu_rehearse(FIVE_NUMBERS(a), a->marks, BUFFER(a, 0), BUFFER(a, 1), BUFFER(a, 2));
 }
 
 static uint64_t run_check(struct arguments *a)
@@ -111,10 +114,10 @@ static const struct call {
     int alike[2], alike_len[2];
 } calls[] = {
     {"vembopu_open", run_open, 6, 0, 0, {3, 4}, {0, 0}},
-    {"vembopu_ballot", run_ballot, 9, 5, 0, {0, 0}, {0, 0}},
-    {"vembopu_advance", run_advance, 9, 5, 1, {0, 0}, {0, 0}},
-    {"vembopu_result", run_result, 9, 5, 0, {3, 4}, {0, 0}},
-    {"vembopu_advance_lent", run_advance_lent, 9, 0, 1, {0, 0}, {0, 0}},
+    {"vembopu_ballot", run_ballot, BYTES, NUMBERS, 0, {0, 0}, {0, 0}},
+    {"vembopu_advance", run_advance, BYTES, NUMBERS, 1, {0, 0}, {0, 0}},
+    {"vembopu_result", run_result, BYTES, NUMBERS, 0, {3, 4}, {0, 0}},
+    {"vembopu_advance_lent", run_advance_lent, BYTES, 0, 1, {0, 0}, {0, 0}},
     {"vembopu_read", run_read, 0, 0, 2, {0, 0}, {0, 0}},
     {"vembopu_sheet_len", run_sheet_len, 0, 0, 2, {0, 0}, {0, 0}},
     {"vembopu_write", run_write, 0, 0, 3, {0, 0}, {0, 0}},
@@ -134,7 +137,7 @@ struct example {
     const uint8_t *before[BUFFERS];
     size_t len[BUFFERS];
     uint64_t answer;
-    const uint8_t *state;          /* bytes 5 to 8 after the call, if others */
+    const uint8_t *state;          /* the state after the call, if another */
     const uint8_t *after[BUFFERS]; /* of those that are written */
 };
 
@@ -163,26 +166,41 @@ static const uint8_t b_header[] = {4, 0, 1, 4, 0, 0, 77, 88, 8, 0, 0, 0};
 static const uint8_t b_log[] = {TO_ALL(255), TO_ALL(255), TO_ALL(255), LIAR, ROUND(1, 0, 0, 255),
                                 ROUND(2, 2, 2, 255), ROUND(1, 255, 255, 255), ROUND(1, 1, 1, 255),
                                 ROUND(1, 1, 1, 255)};
-static const uint8_t b_outcomes[] = {1, 1, 1, 1, 1, 1, 1, 1, 1, 255, 255, 255};
+static const uint8_t b_outcomes[] = {1, 1, 1, 0, 1, 1, 1, 0, 1, 1, 1, 0, TO_ALL(255)};
 
 /* The same line, none bad, station 3 sends a one. */
 static const uint8_t good_table[] = {NO_EFFECT, FIVE(NO_EFFECT)};
 static const uint8_t good_log[] = {ROUND(255, 255, 1, 255), ROUND(1, 1, 1, 1), ROUND(1, 1, 1, 1),
                                    ROUND(1, 255, 255, 255), ROUND(1, 1, 1, 1), ROUND(1, 1, 1, 1)};
-static const uint8_t good_outcomes[] = {1, 2, 0, 1, 2, 0, 1, 2, 0, 1, 2, 0};
+static const uint8_t good_outcomes[] = {1, 2, 0, 0, 1, 2, 0, 0, 1, 2, 0, 0, 1, 2, 0, 0};
 
-/* Case B's first exchange, had alone. */
+/* Case B with blanks from station 4 to station 1 in round 3 and to station 2 in
+   rounds 4 and 5: garbled in round 5 alone, as in round 3 a blank has a meaning,
+   and in round 4 the king is another. */
+#define TOLD_BY_4(one, two) TO_ALL(9), TO_ALL(9), TO_ALL(9), one, two, 255, 255
+#define HEARD_OF_4(a, b, c, one, two) TO_ALL(a), TO_ALL(b), TO_ALL(c), one, two, 255, 255
+static const uint8_t garbled_table[] = {TO_ALL(9), TO_ALL(9), TO_ALL(9), LIAR, NO_EFFECT, TOLD_BY_4(2, 255),
+                                        TOLD_BY_4(255, 2), TOLD_BY_4(255, 2), NO_EFFECT};
+static const uint8_t garbled_log[] = {TO_ALL(255), TO_ALL(255), TO_ALL(255), LIAR, ROUND(1, 0, 0, 255),
+                                      HEARD_OF_4(2, 2, 2, 2, 255), HEARD_OF_4(1, 255, 255, 255, 2),
+                                      HEARD_OF_4(1, 1, 1, 255, 2), ROUND(1, 1, 1, 255)};
+static const uint8_t garbled_outcomes[] = {1, 1, 1, 0, 1, 1, 1, 1, 1, 1, 1, 0, TO_ALL(255)};
+
+/* Case B's first exchange, had alone: garbled in no round, in the second, in
+   both. */
 static const uint8_t inputs[] = {1, 0, 0, 9};
-static const uint8_t exchange_table[] = {NO_EFFECT, NO_EFFECT};
-static const uint8_t exchange_outcomes[] = {1, 0, 1, 1, 0, 1, 1, 0, 1, 255, 255, 255};
+static const uint8_t exchange_table[] = {TO_ALL(9), TO_ALL(9), TO_ALL(9), 255, 255, 2, 255,
+                                         TO_ALL(9), TO_ALL(9), TO_ALL(9), 2, 3, 254, 255};
+static const uint8_t exchange_outcomes[] = {1, 0, 1, 0, 1, 0, 1, 1, 1, 0, 1, 2, TO_ALL(255)};
 
-/* Rows of a line of 16 with t 2 and T 5: n-T is 11, n-t is 14. */
+/* Rows of a line of 16 with t 2 and T 5: n-T is 11, n-t is 14. The second has
+   garbled ballots. */
 static const uint8_t from_9[16] = {0, 0, 0, 0, 0, 0, 0, 0, 1, 0, 0, 0, 0, 0, 0, 0};
 static const uint8_t eleven_ones[16] = {1, 1, 1, 1, 1, 1, 1, 1, 1, 1, 1, 0, 2, 255, 7, 0};
 static const uint8_t thirteen_zeros[16] = {0, 0, 0, 0, 0, 0, 0, 0, 0, 0, 0, 0, 0, 1, 1, 2};
 static const uint8_t king_1[16] = {0, 1, 1, 1, 1, 1, 1, 1, 1, 1, 1, 1, 1, 1, 1, 1};
-static const uint8_t after_sender[] = {2, 1, 2, 0}, after_first[] = {3, 1, 1, 2}, after_second[] = {4, 0, 1, 1},
-                     after_king[] = {5, 0, 2, 0};
+static const uint8_t after_sender[] = {2, 1, 2, 0, 0}, after_first[] = {3, 1, 1, 2, 2},
+                     after_second[] = {4, 0, 1, 1, 2}, after_king[] = {5, 0, 2, 0, 3};
 
 /* A row, to a station by value and to a lent one. */
 #define TAKES(row, after, ...)                                                                            \
@@ -193,15 +211,16 @@ static const struct example examples[] = {
     /* round 1, value 0, z blank, grade 0 */
     {.call = OPEN, .byte = {7, 1, 2, 3, 4, 0}, .answer = 0x00020001u},
     /* king 3 sends its y in round 10; in the second round of an exchange, z */
-    {.call = BALLOT, .byte = {16, 2, 5, 7, 3, 10, 1, 2, 0}, .answer = 1},
-    {.call = BALLOT, .byte = {16, 2, 5, 7, 3, 3, 1, 0, 2}, .answer = 0},
-    TAKES(from_9, after_sender, 16, 2, 5, 9, 7, 1, 0, 2, 0),
-    TAKES(eleven_ones, after_first, 16, 2, 5, 9, 7, 2, 1, 0, 2),
-    TAKES(thirteen_zeros, after_second, 16, 2, 5, 9, 7, 3, 1, 1, 0),
-    TAKES(king_1, after_king, 16, 2, 5, 9, 7, 4, 1, 2, 0),
-    /* running in round 5; done after R = 12, with value 0, grade 1, flag 1 */
-    {.call = RESULT, .byte = {16, 2, 5, 9, 7, 5, 1, 2, 0}, .answer = 0x00000500u},
-    {.call = RESULT, .byte = {16, 2, 5, 9, 7, 13, 0, 2, 1}, .answer = 0x01010001u},
+    {.call = BALLOT, .byte = {16, 2, 5, 7, 3, 10, 1, 2, 0, 4}, .answer = 1},
+    {.call = BALLOT, .byte = {16, 2, 5, 7, 3, 3, 1, 0, 2, 2}, .answer = 0},
+    TAKES(from_9, after_sender, 16, 2, 5, 9, 7, 1, 0, 2, 0, 0),
+    TAKES(eleven_ones, after_first, 16, 2, 5, 9, 7, 2, 1, 0, 2, 1),
+    TAKES(thirteen_zeros, after_second, 16, 2, 5, 9, 7, 3, 1, 1, 0, 2),
+    TAKES(king_1, after_king, 16, 2, 5, 9, 7, 4, 1, 2, 0, 3),
+    /* running in round 5; done after R = 12, with value 0, grade 1, flag 1, and
+       seven garbled rounds */
+    {.call = RESULT, .byte = {16, 2, 5, 9, 7, 5, 1, 2, 0, 3}, .answer = 0x00000500u},
+    {.call = RESULT, .byte = {16, 2, 5, 9, 7, 13, 0, 2, 1, 7}, .answer = 0x0701010001u},
     {.call = READ, .before = {b_sheet}, .len = {sizeof b_sheet, sizeof b_read}, .after = {NULL, b_read}},
     {.call = SHEET_LEN, .before = {b_header, b_table}, .len = {sizeof b_header, sizeof b_table},
      .answer = sizeof b_sheet},
@@ -212,11 +231,19 @@ static const struct example examples[] = {
      .len = {sizeof b_table, sizeof b_log, sizeof b_outcomes}, .after = {NULL, b_log, b_outcomes}},
     {.call = REHEARSE, .byte = {4, 0, 1, 3, 1}, .marks = 0, .before = {good_table},
      .len = {sizeof good_table, sizeof good_log, sizeof good_outcomes}, .after = {NULL, good_log, good_outcomes}},
-    /* station 4, whose outcome is 255; nobody */
+    {.call = REHEARSE, .byte = {4, 0, 1, 4, 0}, .marks = 8, .before = {garbled_table},
+     .len = {sizeof garbled_table, sizeof garbled_log, sizeof garbled_outcomes},
+     .after = {NULL, garbled_log, garbled_outcomes}},
+    /* station 4, whose outcome is 255; nobody; station 4 again, and station 2 too
+       where its count is another */
     {.call = CHECK, .byte = {4, 0, 1, 4}, .before = {b_log, b_outcomes}, .len = {sizeof b_log, sizeof b_outcomes},
      .answer = 8},
     {.call = CHECK, .byte = {4, 0, 1, 3}, .before = {good_log, good_outcomes},
      .len = {sizeof good_log, sizeof good_outcomes}},
+    {.call = CHECK, .byte = {4, 0, 1, 4}, .before = {garbled_log, garbled_outcomes},
+     .len = {sizeof garbled_log, sizeof garbled_outcomes}, .answer = 8},
+    {.call = CHECK, .byte = {4, 0, 1, 4}, .before = {garbled_log, b_outcomes},
+     .len = {sizeof garbled_log, sizeof b_outcomes}, .answer = 8 | 2},
     {.call = EXCHANGE, .byte = {4, 0, 1}, .marks = 8, .before = {inputs, exchange_table},
      .len = {sizeof inputs, sizeof exchange_table, sizeof exchange_outcomes},
      .after = {NULL, NULL, exchange_outcomes}},
@@ -279,7 +306,8 @@ static struct arguments arguments_of(const struct example *e)
 static int as_after(const struct example *e, const struct arguments *a)
 {
     uint8_t want[SPACE];
-    int same = memcmp(a->byte, e->byte, 5) == 0 && memcmp(a->byte + 5, e->state ? e->state : e->byte + 5, 4) == 0;
+    const uint8_t *after = e->state ? e->state : e->byte + NUMBERS;
+    int same = memcmp(a->byte, e->byte, NUMBERS) == 0 && memcmp(a->byte + NUMBERS, after, BYTES - NUMBERS) == 0;
     for (int k = 0; k < BUFFERS; k++) {
         lay(want, e->after[k] ? e->after[k] : e->before[k], e->len[k]);
         same = same && memcmp(space[k], want, SPACE) == 0;
@@ -381,12 +409,12 @@ static void try_call(int call)
     printf("%s: %lu pairs\n", calls[call].name, passed + failed - before);
 }
 
-/* The header's nine fields, in document 01's order. */
+/* The header's ten fields, in document 01's order, the count last. */
 static void offsets(void)
 {
 #define OFFSET(field) offsetof(struct vembopu_station, field)
     static const size_t offset[BYTES] = {OFFSET(n),     OFFSET(t),     OFFSET(upper), OFFSET(sender), OFFSET(own),
-                                         OFFSET(round), OFFSET(value), OFFSET(z),     OFFSET(grade)};
+                                         OFFSET(round), OFFSET(value), OFFSET(z),     OFFSET(grade),  OFFSET(garbled)};
     for (size_t k = 0; k < BYTES; k++)
         check(offset[k] == k, "field %lu of the station stands at %lu", (unsigned long)k, (unsigned long)offset[k]);
     check(sizeof(struct vembopu_station) == BYTES, "a station has %lu bytes",

@@ -1,6 +1,7 @@
 /*
  * Every refusal of the station's calls through C, alone and in pairs; calls at
- * the edges and by lot against the documents written once more (model.h); rows
+ * the edges, with every value of each byte of a state and by lot against the
+ * documents written once more (model.h); garbled ballots, worked out; rows
  * between pages that can't be touched. Every row is given to the lent station
  * too, which stands at the edges of such a page.
  */
@@ -17,6 +18,12 @@ enum { CALLS = 5, LONGEST_ROW = 300, BLOCK = 10000, BLOCKS = 10, NUMBERS = 15 };
 
 static const char *const call_name[CALLS] = {"open", "ballot", "advance", "advance_lent", "result"};
 static uint8_t some_row[LONGEST_ROW];
+static uint64_t above; /* what stands above a state's five bytes, which no call looks at */
+
+static uint64_t state_of(const struct call *c)
+{
+    return state_bits(c) | above;
+}
 
 /* ---- The lent station ---- */
 
@@ -40,7 +47,7 @@ static void make_lent_page(void)
 static struct vembopu_station station_of(const struct call *c)
 {
     return vembopu_station_of((uint8_t)c->n, (uint8_t)c->t, (uint8_t)c->T, (uint8_t)c->sender, (uint8_t)c->own,
-                              state_bits(c));
+                              state_of(c));
 }
 
 /* The lent call as vembopu_advance answers, with the station at a place of the
@@ -98,13 +105,13 @@ static uint64_t library(int which, const struct call *c)
     case OPEN:
         return vembopu_open(n, t, T, sender, own, (uint8_t)c->value);
     case BALLOT:
-        return vembopu_ballot(n, t, T, sender, own, state_bits(c));
+        return vembopu_ballot(n, t, T, sender, own, state_of(c));
     case ADVANCE:
-        return vembopu_advance(n, t, T, sender, own, state_bits(c), c->row, c->row_len);
+        return vembopu_advance(n, t, T, sender, own, state_of(c), c->row, c->row_len);
     case LENT:
         return lent(c);
     default:
-        return vembopu_result(n, t, T, sender, own, state_bits(c));
+        return vembopu_result(n, t, T, sender, own, state_of(c));
     }
 }
 
@@ -131,9 +138,9 @@ static int agrees(int call, const struct call *c)
     if (got == want)
         return 1;
     if (told++ < MOST_TOLD)
-        printf("%s n %d t %d T %d sender %d own %d value %d state %08lx row of %lu: %llx, not %llx\n",
+        printf("%s n %d t %d T %d sender %d own %d value %d state %016llx row of %lu: %llx, not %llx\n",
                call_name[call], c->n, c->t, c->T, c->sender, c->own, c->value,
-               (unsigned long)state_bits(c), (unsigned long)c->row_len,
+               (unsigned long long)state_of(c), (unsigned long)c->row_len,
                (unsigned long long)got, (unsigned long long)want);
     return 0;
 }
@@ -161,6 +168,9 @@ FAULT(z_3, c->z = 3)
 FAULT(z_255, c->z = 255)
 FAULT(grade_3, c->grade = 3)
 FAULT(grade_255, c->grade = 255)
+FAULT(garbled_round, c->garbled = c->round)
+FAULT(garbled_above, c->garbled = after(c->round))
+FAULT(garbled_255, c->garbled = 255)
 FAULT(is_done, c->round = (rounds(c->t) + 1) & 255)
 FAULT(row_short, c->row_len = c->n > 0 ? (size_t)c->n - 1 : 1)
 FAULT(row_long, c->row_len = (size_t)c->n + 1)
@@ -199,6 +209,9 @@ static const struct fault faults[] = {
     {"z 255", 7, HAS_STATE, z_255},
     {"grade 3", 7, HAS_STATE, grade_3},
     {"grade 255", 7, HAS_STATE, grade_255},
+    {"count equal to the round", 7, HAS_STATE, garbled_round},
+    {"count above the round", 7, HAS_STATE, garbled_above},
+    {"count 255", 7, HAS_STATE, garbled_255},
     {"done", 7, BALLOT | TAKES_ROW, is_done},
     {"row of n-1", 8, TAKES_ROW, row_short},
     {"row of n+1", 8, TAKES_ROW, row_long},
@@ -210,7 +223,7 @@ enum { FAULTS = sizeof faults / sizeof faults[0] };
 /* A refused call gives nothing; one that takes a row, the state that it was handed. */
 static void refused(int call, const struct call *c, int number, const char *one, const char *two)
 {
-    uint32_t left = 1 << call & TAKES_ROW ? state_bits(c) : 0;
+    uint64_t left = 1 << call & TAKES_ROW ? state_bits(c) : 0;
     uint64_t got = library(1 << call, c);
     check(got == answer(number, left), "%s, n %d, %s, %s: %llx, not refusal %d", call_name[call],
           c->n, one, two, (unsigned long long)got, number);
@@ -237,18 +250,20 @@ static void faults_of(int call, const struct call *base)
 /* Any row and length will do with the lines that faults are laid into. */
 static struct call accepted(int n, int t, int T)
 {
-    struct call c = {n, t, T, n, 1, 1, rounds(t), 1, 2, 2, some_row, (size_t)n};
+    struct call c = {n, t, T, n, 1, 1, rounds(t), 1, 2, 2, 0, some_row, (size_t)n};
     return c;
 }
 
+/* Without a garbled round, and with as many as there can be: one below its round. */
 static void all_faults(void)
 {
     static const int lines[][3] = {{1, 0, 0}, {4, 1, 1}, {7, 0, 3}, {32, 10, 10}, {32, 0, 15}};
-    for (size_t i = 0; i < sizeof lines / sizeof lines[0]; i++) {
-        struct call base = accepted(lines[i][0], lines[i][1], lines[i][2]);
+    for (size_t i = 0; i < 2 * sizeof lines / sizeof lines[0]; i++) {
+        struct call base = accepted(lines[i / 2][0], lines[i / 2][1], lines[i / 2][2]);
+        base.garbled = i % 2 == 0 ? 0 : base.round - 1;
         for (int call = 0; call < CALLS; call++) {
-            check(vembopu_refusal(library(1 << call, &base)) == 0, "%s, n %d: refused",
-                  call_name[call], base.n);
+            check(vembopu_refusal(library(1 << call, &base)) == 0, "%s, n %d, count %d: refused",
+                  call_name[call], base.n, base.garbled);
             faults_of(call, &base);
         }
     }
@@ -275,12 +290,13 @@ static unsigned long long edge_states(struct call *c, unsigned long long *differ
     int R = rounds(c->t);
     const int edge[] = {0, 1, R, R + 1, R + 2, 255};
     unsigned long long tried = 0;
-    for (int i = 0; i < 6 * 2 * 2 * 2 * 2; i++) {
+    for (int i = 0; i < 6 * 2 * 2 * 2 * 2 * 2; i++) {
         c->round = edge[i % 6] & 255;
         c->x = 1 + i / 6 % 2;
         c->z = 2 + i / 12 % 2;
         c->grade = 2 + i / 24 % 2;
         c->row_len = (size_t)c->n + (size_t)(i / 48 % 2);
+        c->garbled = (c->round - 1 + i / 96) & 255;
         for (int call = 1; call < CALLS; call++, tried++)
             *differ += !agrees(call, c);
     }
@@ -295,7 +311,7 @@ static void edges_of(int n)
     unsigned long long tried = 0, differ = 0;
     for (int i = 0; i < 10 * 10 * 4 * 4; i++) {
         struct call c = {n, threshold[i % 10], threshold[i / 10 % 10], number[i / 100 % 4],
-                         number[i / 400], 0, 0, 0, 0, 0, some_row, 0};
+                         number[i / 400], 0, 0, 0, 0, 0, 0, some_row, 0};
         for (int v = 0; v < 4; v++, tried++) {
             c.value = value[v];
             differ += !agrees(0, &c);
@@ -310,6 +326,109 @@ static void edges(void)
     static const int ns[] = {0, 1, 2, 3, 4, 31, 32, 33, 255};
     for (size_t i = 0; i < sizeof ns / sizeof ns[0]; i++)
         edges_of(ns[i]);
+}
+
+/* ---- Each byte of a state ---- */
+
+/* Every value of each byte, the others accepted, and of those above. */
+static void each_value(const struct call *base)
+{
+    unsigned long differ = 0;
+    for (int i = 0; i < 8 * 256; i++) {
+        struct call c = *base;
+        int *const byte[] = {&c.round, &c.x, &c.z, &c.grade, &c.garbled};
+        if (i / 256 < 5)
+            *byte[i / 256] = i % 256;
+        else
+            above = (uint64_t)(i % 256) << 8 * (i / 256);
+        for (int call = 1; call < CALLS; call++)
+            differ += !agrees(call, &c);
+        above = 0;
+    }
+    check(differ == 0, "n %d, round %d, count %d, another byte of the state: %lu differ", base->n, base->round,
+          base->garbled, differ);
+}
+
+/* In every round, and done. */
+static void each_byte(void)
+{
+    static const int lines[][3] = {{1, 0, 0}, {4, 1, 1}, {32, 10, 10}, {32, 0, 15}};
+    for (size_t i = 0; i < sizeof lines / sizeof lines[0]; i++) {
+        struct call c = accepted(lines[i][0], lines[i][1], lines[i][2]);
+        for (c.round = 1; c.round <= rounds(c.t) + 1; c.round++) {
+            c.grade = c.round % 2 * 2;
+            c.garbled = c.round / 2;
+            each_value(&c);
+        }
+    }
+}
+
+/* ---- Garbled ballots ---- */
+
+/* Four stations, t and T 1, sender 2, kings 1 and 2 in rounds 4 and 7; this is
+   station 3. One byte of a row that has silence elsewhere, and what it adds to
+   the count. */
+static const struct {
+    int round, from;
+    uint8_t byte;
+    int adds;
+} one_byte[] = {
+    {1, 2, 0, 0},  {1, 2, 1, 0},  {1, 2, 2, 1},  {1, 2, 3, 1},   {1, 2, 254, 1}, {1, 2, 255, 0}, /* the sender */
+    {1, 1, 77, 0}, {1, 3, 2, 0},  {1, 4, 254, 0},                                                /* bystanders */
+    {2, 1, 0, 0},  {2, 1, 1, 0},  {2, 1, 2, 1},  {2, 4, 3, 1},   {2, 4, 254, 1}, {2, 4, 255, 0},
+    {2, 3, 2, 1},                                                                                /* its own */
+    {3, 1, 0, 0},  {3, 1, 1, 0},  {3, 1, 2, 0},  {3, 4, 3, 1},   {3, 4, 254, 1}, {3, 4, 255, 0},
+    {3, 3, 2, 0},  {3, 3, 77, 1},
+    {4, 1, 0, 0},  {4, 1, 1, 0},  {4, 1, 2, 1},  {4, 1, 3, 1},   {4, 1, 254, 1}, {4, 1, 255, 0}, /* the king */
+    {4, 2, 77, 0}, {4, 3, 2, 0},  {4, 4, 254, 0},
+    {7, 2, 77, 1}, {7, 2, 2, 1},  {7, 2, 255, 0}, {7, 1, 77, 0},                                 /* the next one */
+    {8, 4, 2, 1},  {8, 4, 9, 1},  {9, 4, 2, 0},  {9, 4, 9, 1},                                   /* the last exchange */
+};
+
+/* At any grade, from no count and from the largest there can be. */
+static void adds_one_byte(void)
+{
+    for (size_t i = 0; i < 6 * sizeof one_byte / sizeof one_byte[0]; i++) {
+        int round = one_byte[i / 6].round, grade = (int)(i % 3), before = i % 2 == 0 ? 0 : round - 1;
+        uint8_t row[4] = {255, 255, 255, 255};
+        struct call c = {4, 1, 1, 2, 3, 0, round, 1, 1, grade, before, row, 4};
+        uint64_t count = (uint64_t)(before + one_byte[i / 6].adds);
+        row[one_byte[i / 6].from - 1] = one_byte[i / 6].byte;
+        check(library(ADVANCE, &c) >> 32 == count && library(LENT, &c) >> 32 == count,
+              "round %d, %d from station %d: not %d more than %d", round, one_byte[i / 6].byte, one_byte[i / 6].from,
+              one_byte[i / 6].adds, before);
+    }
+}
+
+/* The count of a station all of whose rows have this byte everywhere; each
+   accepted answer is handed on as it is. */
+static int count_of_rows(uint8_t n, uint8_t t, uint8_t byte)
+{
+    uint8_t row[32];
+    uint64_t a = vembopu_open(n, t, t, n, 1, 1);
+    memset(row, byte, sizeof row);
+    for (int r = 1; r <= rounds(t); r++)
+        a = vembopu_advance(n, t, t, n, 1, a, row, n);
+    return vembopu_garbled(vembopu_result(n, t, t, n, 1, a));
+}
+
+/* A round counts once, however many ballots of it are garbled: of R rounds all,
+   or all but the second ones of t + 2 exchanges, or none. */
+static void whole_counts(void)
+{
+    for (uint8_t n = 1; n <= 32; n++) {
+        uint8_t t = (uint8_t)((n - 1) / 3);
+        check(count_of_rows(n, t, 3) == rounds(t) && count_of_rows(n, t, 254) == rounds(t), "n %d: all garbled", n);
+        check(count_of_rows(n, t, 2) == rounds(t) - (t + 2), "n %d: all blank: %d", n, count_of_rows(n, t, 2));
+        check(count_of_rows(n, t, 255) == 0, "n %d: silence is counted", n);
+        check(count_of_rows(n, t, 0) == 0 && count_of_rows(n, t, 1) == 0, "n %d: bits are counted", n);
+    }
+}
+
+static void garbled_ballots(void)
+{
+    adds_one_byte();
+    whole_counts();
 }
 
 /* ---- By lot ---- */
@@ -332,7 +451,7 @@ static void draw_line(struct call *c)
     c->value = draw(8) == 0 ? (int)draw(256) : (int)draw(3);
 }
 
-/* Any 32 bits, or bytes near the edges. */
+/* Any 64 bits, or bytes near the edges with any above them. */
 static void draw_state(struct call *c)
 {
     uint32_t any = draw_word();
@@ -341,6 +460,8 @@ static void draw_state(struct call *c)
     c->x = near_edges ? (int)draw(9) / 4 : (int)(any >> 8 & 255);
     c->z = near_edges ? (int)draw(10) / 3 : (int)(any >> 16 & 255);
     c->grade = near_edges ? (int)draw(10) / 3 : (int)(any >> 24);
+    c->garbled = (int)(near_edges ? draw((uint32_t)c->round + 1) : draw(256));
+    above = (uint64_t)draw_word() << 40;
 }
 
 static void draw_row(struct call *c, uint8_t *row)
@@ -367,6 +488,7 @@ static void block(void)
             met[call][vembopu_refusal(library(1 << call, &c)) % NUMBERS]++;
         }
     }
+    above = 0;
     for (int call = 0; call < CALLS; call++)
         check(differ[call] == 0, "%s by lot: %lu differ", call_name[call], differ[call]);
 }
@@ -400,6 +522,7 @@ static void guarded_rows(int n, struct guarded g)
     for (int round = 1; round <= rounds(c.t); round++) {
         c.round = round;
         c.grade = round % 2 * 2;
+        c.garbled = round / 2;
         for (int call = 2; call <= 3; call++) {
             c.row = g.page;
             differ += !agrees(call, &c);
@@ -417,7 +540,7 @@ static void try_bad_rows(struct vembopu_station *s, uint8_t number)
 {
     const struct vembopu_station before = *s;
     const size_t length[] = {0, (size_t)s->n - 1, (size_t)s->n + 1};
-    uint32_t state = vembopu_state_of(s);
+    uint64_t state = vembopu_state_of(s);
     for (int i = 0; i < 3; i++) {
         const uint8_t *row = i == 0 ? NULL : some_row;
         uint64_t got = vembopu_advance(s->n, s->t, s->upper, s->sender, s->own, state, row, length[i]);
@@ -425,8 +548,8 @@ static void try_bad_rows(struct vembopu_station *s, uint8_t number)
               (unsigned long long)got);
         int lent_number = vembopu_advance_lent(s, row, length[i]);
         check(lent_number == number && memcmp(s, &before, sizeof before) == 0,
-              "n %d, a row of %lu lent: %d, state %08lx", s->n, (unsigned long)length[i], lent_number,
-              (unsigned long)vembopu_state_of(s));
+              "n %d, a row of %lu lent: %d, state %010llx", s->n, (unsigned long)length[i], lent_number,
+              (unsigned long long)vembopu_state_of(s));
     }
 }
 
@@ -440,8 +563,8 @@ static uint64_t take_both(struct vembopu_station *s)
 {
     uint64_t next = vembopu_advance(s->n, s->t, s->upper, s->sender, s->own, vembopu_state_of(s), some_row, s->n);
     int number = vembopu_advance_lent(s, some_row, s->n);
-    check(answer(number, vembopu_state_of(s)) == next, "n %d: %d and state %08lx lent, not %llx", s->n,
-          number, (unsigned long)vembopu_state_of(s), (unsigned long long)next);
+    check(answer(number, vembopu_state_of(s)) == next, "n %d: %d and state %010llx lent, not %llx", s->n,
+          number, (unsigned long long)vembopu_state_of(s), (unsigned long long)next);
     return next;
 }
 
@@ -449,7 +572,7 @@ static void whole_station(uint8_t n)
 {
     uint8_t t = (uint8_t)((n - 1) / 3);
     int taken = 0, R = rounds(t);
-    uint32_t opened = vembopu_state(vembopu_open(n, t, t, 1, n, 1));
+    uint64_t opened = vembopu_state(vembopu_open(n, t, t, 1, n, 1));
     struct vembopu_station s = vembopu_station_of(n, t, t, 1, n, opened);
     uint64_t result = result_of(&s);
     while (vembopu_running(result) && taken <= R) {
@@ -459,7 +582,7 @@ static void whole_station(uint8_t n)
         taken++;
         result = result_of(&s);
     }
-    uint32_t state = vembopu_state_of(&s);
+    uint64_t state = vembopu_state_of(&s);
     check(vembopu_done(result) && taken == R, "n %d: done after %d rows, not %d", n, taken, R);
     check(vembopu_refusal(vembopu_ballot(n, t, t, 1, n, state)) == 7, "n %d: a done station's ballot", n);
     uint64_t more = take_both(&s);
@@ -494,11 +617,13 @@ static void whole_stations(void)
 int main(void)
 {
     for (int i = 0; i < LONGEST_ROW; i++)
-        some_row[i] = (uint8_t)draw(3);
+        some_row[i] = (uint8_t)draw(4);
     make_lent_page();
     part("causes alone and in pairs", all_faults);
     part("thresholds of cases E, F and H", cases);
     part("calls at the edges", edges);
+    part("every value of each byte of a state", each_byte);
+    part("garbled ballots", garbled_ballots);
     part("calls by lot", by_lot);
     part("rows at the edges of a page", all_guarded_rows);
     part("stations with refused rows between", whole_stations);

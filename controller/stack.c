@@ -191,7 +191,8 @@ static void stations_of(const uint8_t *line)
 {
     int last = 3 * line[1] + 8;
     for (int i = 0; i < 6 * (last + 1); i++) {
-        struct call next = {line[0], line[1], line[2], line[3], line[4], line[5], i / 6, i % 2, 2, i % 3, row, line[0]};
+        struct call next = {line[0], line[1], line[2], line[3], line[4], line[5], i / 6,
+                            i % 2,   2,       i % 3,   i / 12,  row,     line[0]};
         for (int k = 0; k < INPUTS; k++)
             row[k] = (uint8_t)(i % 6 < 4 ? i % 6 : k % 4);
         c = next;
