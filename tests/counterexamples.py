@@ -5,15 +5,15 @@ The prover refuses each edit. This test shows that it is right to: it runs the d
 with the edit, on small lines with random bad stations, and looks for a run that breaks a statement of
 crates/broadcast/specs/Theorems.antt; and it asks who broke the rules, and the same with the edit, by logs of such runs
 and by changed ones, and looks for a log that breaks a statement of crates/rules/specs/Theorems.antt. What the documents
-say must break none; each edit must break one. Stations are counted from 0 and rounds from 1, as in the definitions.
-Prints a line for each check.
+say must break none; each edit must break one. An edit may also break what no statement has but request 4: which rounds
+count, byte by byte. Stations are counted from 0 and rounds from 1, as in the definitions. Prints a line for each check.
 """
 import pathlib
 import random
 import sys
 
-from model import (BLANK, FIRST, KING, OUTCOME, SECOND, SENDER, SILENCE, Keeping, Rules, Run, Station, bit_or, broadcast, broke, exchange, garbled_alone, log_of,
-                   received, run_markings)
+from model import (BLANK, FIRST, GARBLED, KING, OUTCOME, SECOND, SENDER, SILENCE, Keeping, Rules, Run, Station, bit_or, broadcast, broke, exchange, garbled,
+                   garbled_alone, kind_of, log_of, one_of, received, run_markings)
 
 CRATES = pathlib.Path(__file__).resolve().parent.parent / "crates"
 
@@ -96,7 +96,7 @@ def broken_exchange(rules, run, rng):
         return "Exchange-bytes"
     rows = {i: (received(rules, run, 1, x, i), received(rules, run, 2, z, i)) for i in run.good}
     if any(garbled_alone(rules, run, x, z, i) != has_garbled(run, 2, rows[i][0]) + has_garbled(run, 3, rows[i][1]) for i in run.good):
-        return "Garbled-alone"
+        return "request 4's count of the exchange had alone"
     if run.f <= run.T and len(entered) == 1 and (left != entered or any(grade[i] < (2 if run.f <= run.t else 1) for i in run.good)):
         return "Definition-6, validity"
     sure = [i for i in run.good if grade[i] == 2 or (run.f <= run.t and grade[i] >= 1)]
@@ -115,15 +115,27 @@ def broken_reading(rules, run):
     return None
 
 
+def broken_ballot(rules, run, r, row):
+    """Good stations' ballots are not garbled at those who expect them."""
+    kind, one = kind_of(r), one_of(run, r)
+    return any(rules.speaks(kind, i, one) and rules.reading(kind, row[i]) == GARBLED for i in run.good)
+
+
 def broken_count(rules, run, said, outcomes):
-    """The rounds with a garbled ballot that a good station expected, in the log; none where nobody is bad."""
+    """A good station's count, by the rows that the log has for it."""
     log = log_of(rules, run, said)
     for j in run.good:
-        rows = {r: [log[Rules.offset(run.n, r, i, j)] for i in range(run.n)] for r in range(1, run.rounds + 1)}
-        if outcomes[j][3] != sum(has_garbled(run, r, row) for r, row in rows.items()):
-            return "Garbled-rounds"
-        if run.f == 0 and outcomes[j][3] != 0:
-            return "Garbled-rounds, none bad"
+        count, rows = outcomes[j][3], {r: [log[Rules.offset(run.n, r, i, j)] for i in range(run.n)] for r in range(1, run.rounds + 1)}
+        if any(broken_ballot(rules, run, r, row) for r, row in rows.items()):
+            return "Good-ballots-readable"
+        if run.f == 0 and count != 0:
+            return "None-marked-none-garbled"
+        if not 0 <= count <= run.rounds:
+            return "Outcome-bytes"
+        if count != sum(garbled(rules, kind_of(r), one_of(run, r), row) for r, row in rows.items()):
+            return "Count-by-log"
+        if count != sum(has_garbled(run, r, row) for r, row in rows.items()):
+            return "request 4's count"
     return None
 
 

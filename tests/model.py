@@ -79,7 +79,8 @@ class Run:
         return f"n {self.n} t {self.t} T {self.T}, sender {self.sender + 1}, value {self.value}, marked {marked}"
 
     def entry(self, r, i, j):
-        return self.table[((r - 1) * self.n + i) * self.n + j]
+        """Round 0, which only an edit asks for, has the bytes of round 1, as 0 - 1 is 0 in the definitions."""
+        return self.table[((r - (r > 0)) * self.n + i) * self.n + j]
 
 
 def sends(rules, run, r, i, j, b):
@@ -107,7 +108,7 @@ def received(rules, run, r, said, j):
 
 def garbled(rules, kind, one, row):
     """Whether a round of that kind, with that sender or king, counts at a station that receives the row."""
-    ballots = sum(rules.expects(kind, rules.speaks(kind, i, one)) and rules.reading(kind, b) == GARBLED for i, b in enumerate(row))
+    ballots = sum(rules.reading(kind, b) == GARBLED and rules.expects(kind, rules.speaks(kind, i, one)) for i, b in enumerate(row))
     return rules.some_garbled(ballots)
 
 
