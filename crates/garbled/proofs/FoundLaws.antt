@@ -15,6 +15,7 @@ use Rattle.line.specs.Marks.{marked}
 use Rattle.line.specs.Ballot.{is-garbled}
 use Rattle.line.specs.Writing.{Each}
 use Rattle.line.proofs.CountLaws.{count-same, count-none}
+use Rattle.line.proofs.BallotLaws.{garbled-sender, garbled-first, garbled-second, garbled-king}
 use Rattle.line.proofs.LineLaws.{round-means}
 use Rattle.line.proofs.MarksLaws.{marked-above}
 use Rattle.line.proofs.WritingLaws.{zeros}
@@ -25,10 +26,19 @@ use Rattle.broadcast.proofs.RowLaws.{garbled-none, garbled-next}
 use Rattle.column.specs.Column.{column, sent-by}
 use Rattle.column.proofs.ColumnLaws.{sent-there}
 use Rattle.step.specs.declared.Part.{Part}
+use Rattle.step.specs.declared.Part.the-variants.{Sender, First, Second, King}
 use Rattle.step.specs.Part.{as-part, of-part}
 use Rattle.step.specs.Noted.{noted}
 use Rattle.step.proofs.StepLaws.{speaks-as, reading-as, noted-low}
-use Rattle.garbled.specs.Found.{from, some-of, Adds, found}
+use Rattle.garbled.specs.Found.{from, some-of, found, above, noise, Adds}
+
+-- the bound tells what the reading does
+noise-is : (p : Part) (b : ℕ) → noise (above p) b ≡ is-garbled (reading (of-part p) b)
+unfolding noise above reading
+noise-is Sender b = sym (garbled-sender b)
+noise-is First b = sym (garbled-first b)
+noise-is Second b = sym (garbled-second b)
+noise-is (King p) b = sym (garbled-king b)
 
 module _ (n senders sender : ℕ) (p : Part) (bytes : List ℕ) (start : ℕ) where
   -- of none
@@ -54,12 +64,12 @@ module _ (n senders sender : ℕ) (p : Part) (bytes : List ℕ) (start : ℕ) wh
 
   pub looked : (m : ℕ) (l l′ row : List ℕ) → has-round n start (length bytes) ≡ true → m < n → from senders sender p m ≡ true
       → Each n row (sent-by n bytes start m)
-      → Each 32 l′ (λ j. if is-garbled (reading (of-part p) (getD row j 0)) then 1 else getD l j 0) → Adds n senders sender p bytes start m l l′
+      → (bound : ℕ) → bound ≡ above p → Each 32 l′ (λ j. if noise bound (getD row j 0) then 1 else getD l j 0) → Adds n senders sender p bytes start m l l′
   unfolding Each Adds
-  looked m l l′ row room few a is now before j h =
+  looked m l l′ row room few a is bound b now before j h =
       let most = round-means n start (length bytes) room .0 in
       let e = is j h ∙ sent-there n bytes start m few room j in
-      now j (omega arith) ∙ rw (before j h, e) (sym (one-more m j true _ a refl))
+      now j (omega arith) ∙ rw (b, before j h, e, noise-is p (column bytes start n j m)) (sym (one-more m j true _ a refl))
 
   pub skipped : (m : ℕ) (l : List ℕ) → from senders sender p m ≡ false → Adds n senders sender p bytes start m l l
   unfolding Each Adds

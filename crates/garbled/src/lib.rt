@@ -1,18 +1,15 @@
 // The garbled ballots of a round, at all receivers at once. The place j of an array is the station counted j from 0; places beyond n are of no station, and open.
 ghost use mathlib.Core.Path.{_≡_};
 ghost use Prim.Native.Nat.{_<_};
-ghost use mathlib.Core.Bool.{true, _&&_};
+ghost use mathlib.Core.Bool.{true};
 ghost use lib.ListN.{length, getD};
 ghost use Rattle.line.specs.Count.{if_then_else_};
 ghost use Rattle.line.specs.Line.{has-round};
-ghost use Rattle.line.specs.Ballot.{is-garbled};
 ghost use Rattle.line.specs.Writing.{Each};
 ghost use Rattle.broadcast.specs.Broadcast.{speaks};
-ghost use Rattle.broadcast.specs.Garbled.{reading};
 ghost use Rattle.step.specs.Part.{of-part};
-ghost use Rattle.garbled.specs.Found.{from, some-of, Adds, found};
+ghost use Rattle.garbled.specs.Found.{from, some-of, found, above, noise, Adds};
 use line::Line;
-use line::ballot::Ballot;
 use line::marks;
 use step::Part;
 
@@ -38,28 +35,37 @@ fn looked_at(senders: u32, part: Part, sender: u8, i: u8) -> bool
     false
 }
 
-// 1 where the ballot was garbled, otherwise what was found before.
-fn either(found: u8, ballot: Ballot) -> u8
-    ensures { λ r. ⌜ r ≡ (if is-garbled ballot then 1 else found) ⌝ }
+// The bytes above it, but for silence, are garbled in this part: blank counts as a ballot in the second round of an exchange alone.
+fn above(part: Part) -> u8
+    ensures { λ r. ⌜ r ≡ above part ⌝ }
 {
-    match ballot {
-        Ballot::Bit(_) => found,
-        Ballot::Blank => found,
-        Ballot::Silence => found,
-        Ballot::Garbled => 1,
+    match part {
+        Part::Sender => 1,
+        Part::First => 1,
+        Part::Second => Line::BLANK,
+        Part::King(_) => 1,
     }
 }
 
+// 1 for a byte above it, but for silence, otherwise what was found before.
+fn either(found: u8, above: u8, b: u8) -> u8
+    ensures { λ r. ⌜ r ≡ (if noise above b then 1 else found) ⌝ }
+{
+    if b <= above {
+        return found;
+    }
+    if b == Line::SILENCE { found } else { 1 }
+}
+
 // One sender's bytes to all, which are looked at together with what was found before.
-fn add_row(found: [u8; 32], row: [u8; 32], part: Part) -> [u8; 32]
-    ensures { λ r. ⌜ Each 32 r (λ j. if is-garbled (reading (of-part part) (getD row j 0)) then 1 else getD found j 0) ⌝ }
+fn add_row(found: [u8; 32], row: [u8; 32], above: u8) -> [u8; 32]
+    ensures { λ r. ⌜ Each 32 r (λ j. if noise above (getD row j 0) then 1 else getD found j 0) ⌝ }
 {
     let mut next = [0u8; 32];
     let mut j: u8 = 0;
     while j < 32 {
         let k = j as usize;
-        let ballot = step::read(part, row[k]);
-        next[k] = either(found[k], ballot);
+        next[k] = either(found[k], above, row[k]);
         j += 1;
     }
     next
@@ -81,7 +87,7 @@ fn with_sender(
 {
     if looked_at(senders, part, sender, i) {
         let row = column::sent_by(line, bytes, start, i);
-        return add_row(found, row, part);
+        return add_row(found, row, above(part));
     }
     found
 }

@@ -5,20 +5,18 @@ use Prim.Native.Nat.{_≤_, _-_}
 use mathlib.Core.Path.{_≡_, refl}
 use lib.ListN.{length, getD, length-set}
 use Rattle.line.specs.Count.{if_then_else_}
-use Rattle.line.specs.Ballot.{is-garbled}
 use Rattle.line.specs.Writing.{Each}
 use Rattle.line.proofs.WritingLaws.{each-none, each-turn}
-use Rattle.broadcast.specs.Garbled.{reading}
-use Rattle.step.specs.Part.{of-part}
+use Rattle.garbled.specs.Found.{noise}
 use Rattle.garbled.proofs.add_row.Statement.{statement}
 use Rattle.garbled.proofs.add_row.Tie as tie
 
 abbrev Inv-loop : tie.InvT-loop
-Inv-loop part found row next₀ j₀ next j =
-    (j ≤ 32) × (length next ≡ 32) × Each j next (λ k. if is-garbled (reading (of-part part) (getD row k 0)) then 1 else getD found k 0)
+Inv-loop bound found row next₀ j₀ next j =
+    (j ≤ 32) × (length next ≡ 32) × Each j next (λ k. if noise bound (getD row k 0) then 1 else getD found k 0)
 
 abbrev μ-loop : tie.MeasureT-loop
-μ-loop part found row next₀ j₀ next j = 32 - j
+μ-loop bound found row next₀ j₀ next j = 32 - j
 
 loop-holds : tie.Need-loop-holds Inv-loop μ-loop
 loop-holds c = (omega arith, refl, each-none _ _)
@@ -26,14 +24,11 @@ loop-holds c = (omega arith, refl, each-none _ _)
 cast-k : tie.Need-cast-k Inv-loop μ-loop
 cast-k c = search needs
 
-array-read-read : tie.Need-array-read-read Inv-loop μ-loop
-array-read-read c = search needs
-
-read-requires : tie.Need-read-requires Inv-loop μ-loop
-read-requires c κs = search needs
-
 array-read-either : tie.Need-array-read-either Inv-loop μ-loop
 array-read-either c = search needs
+
+array-read-either-2 : tie.Need-array-read-either-2 Inv-loop μ-loop
+array-read-either-2 c = search needs
 
 either-requires : tie.Need-either-requires Inv-loop μ-loop
 either-requires c κs = search needs
@@ -49,8 +44,8 @@ loop-less c = search needs
 
 loop-again : tie.Need-loop-again Inv-loop μ-loop
 loop-again c =
-    let a = c .before .before .before in
-    (omega arith, simp length-set (a .loop .inv .1), each-turn (a .loop .next) _ (a .loop .j) _ (omega (arith, a .loop .inv .1)) (a .loop .inv .2) (rw (← c .before .read .ensures) (c .either .ensures)))
+    let a = c .before .before in
+    (omega arith, simp length-set (a .loop .inv .1), each-turn (a .loop .next) _ (a .loop .j) _ (omega (arith, a .loop .inv .1)) (a .loop .inv .2) (c .either .ensures))
 
 returns : tie.Need-returns Inv-loop μ-loop
 returns c =
@@ -66,9 +61,8 @@ add-row-spec =
     μ-loop
     loop-holds
     cast-k
-    array-read-read
-    read-requires
     array-read-either
+    array-read-either-2
     either-requires
     array-write-next
     add-j

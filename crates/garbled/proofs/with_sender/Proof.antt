@@ -11,15 +11,20 @@ looked-at-requires c κs = search needs
 sent-by-requires : tie.Need-sent-by-requires
 sent-by-requires c κs = search needs
 
+above-requires : tie.Need-above-requires
+above-requires c κs = search needs
+
 add-row-requires : tie.Need-add-row-requires
 add-row-requires c κs = search needs
 
 returns : tie.Need-returns
 returns c =
-    let s = c .before .before .before .before .before in
+    let b = c .before in
+    let s = b .before .before .before .before .before in
     let g = s .args in
     looked (g .line .n) (g .senders) (g .sender) (g .part) (g .bytes .now) (g .start) (g .i) _ _ _ (s .pre .0) (s .pre .1)
-    (sym (c .before .before .before .looked-at .ensures) ∙ c .before .before .if1 .taken) (c .before .sent-by .ensures) (c .add-row .ensures)
+    (sym (b .before .before .before .looked-at .ensures) ∙ b .before .before .if1 .taken) (b .before .sent-by .ensures)
+    _ (b .above .ensures) (c .add-row .ensures)
 
 returns-2 : tie.Need-returns-2
 returns-2 c =
@@ -29,4 +34,4 @@ returns-2 c =
 
 pub with-sender-spec : {M : Type 1} → statement M
 with-sender-spec =
-    tie.close (tie.spec looked-at-requires sent-by-requires add-row-requires returns returns-2)
+    tie.close (tie.spec looked-at-requires sent-by-requires above-requires add-row-requires returns returns-2)
