@@ -217,21 +217,6 @@ module _ (h table : List ℕ) where
     writes-sheet sheet₀ sheet₁ e s =
         writes-by sheet₀ sheet₁ verdict.Accepted _ (rw (told-accepted l n, length-accepts (sheet-length h table) (length sheet₀) (e ∙ told-bytes l n))) (rw told-records) s
 
-  abbrev records-told : Writing → ℕ
-  records-told (writing.Written k) = k
-  records-told (writing.Refused c) = 0
-
-  -- no sheet has more records
-  pub written-most : (sheet₀ sheet₁ : List ℕ) (k : ℕ) → Writes h table sheet₀ sheet₁ (writing.Written k) → k ≤ 4096
-  unfolding write-verdict
-  written-most sheet₀ sheet₁ k w = go (write-verdict h table (length sheet₀)) refl (w .answer-is)
-    where
-      go : (v : Verdict) → write-verdict h table (length sheet₀) ≡ v → writing.Written k ≡ writing-by v (how-many (header h) table) → k ≤ 4096
-      go verdict.Accepted e a =
-          let b = before-few (both-accepted (before-buffer h table) (exact-length (sheet-length h table) (length sheet₀)) e .0) in
-          omega (arith, ap records-told a, b)
-      go (verdict.Refused c) e a = omega (arith, ap records-told a)
-
   -- ---- the whole sheet: the header, then all records
 
   pub sheet-laid : (s : List ℕ) (k : ℕ) → k ≡ how-many (header h) table → length s ≡ 12 + 8 * k
