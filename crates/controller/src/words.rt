@@ -7,7 +7,11 @@ use state::Station;
 pub(crate) fn five(a: u8, b: u8, c: u8, d: u8, e: u8) -> u64
     ensures { λ r. ⌜ r ≡ word a b c d e ⌝ }
 {
-    a as u64 + 256 * (b as u64) + 65536 * (c as u64) + 16777216 * (d as u64) + 4294967296 * (e as u64)
+    a as u64
+        + 256 * (b as u64)
+        + 65536 * (c as u64)
+        + 16777216 * (d as u64)
+        + 4294967296 * (e as u64)
 }
 
 // A station's state.

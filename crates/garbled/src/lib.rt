@@ -93,7 +93,14 @@ fn with_sender(
 }
 
 // All senders of the round that starts at `start`.
-fn all_senders(line: Line, senders: u32, sender: u8, part: Part, bytes: &[u8], start: usize) -> [u8; 32]
+fn all_senders(
+    line: Line,
+    senders: u32,
+    sender: u8,
+    part: Part,
+    bytes: &[u8],
+    start: usize,
+) -> [u8; 32]
     requires { ⌜ has-round (line .n) start (length (now bytes)) ≡ true ⌝ }
     ensures { λ r. ⌜ Each (line .n) r (some-of (line .n) senders sender part (now (bytes .entry)) start (line .n)) ⌝ }
 {
@@ -109,7 +116,14 @@ fn all_senders(line: Line, senders: u32, sender: u8, part: Part, bytes: &[u8], s
 
 // 1 at each receiver for which an expected ballot of these senders is garbled, in the round that starts at `start`, otherwise 0; 0 too where the bytes have no
 // such round.
-pub fn found(line: Line, senders: u32, sender: u8, part: Part, bytes: &[u8], start: usize) -> [u8; 32]
+pub fn found(
+    line: Line,
+    senders: u32,
+    sender: u8,
+    part: Part,
+    bytes: &[u8],
+    start: usize,
+) -> [u8; 32]
     ensures { λ r. ⌜ Each (line .n) r (found (line .n) senders sender part (now (bytes .entry)) start) ⌝ }
 {
     if senders == 0 {

@@ -42,6 +42,7 @@ garbled-bits b = go (leb b 1) refl
     other : (c : Bool) → is-garbled (if c then Silence else Garbled) ≡ not c
     other true = refl
     other false = refl
+
     go : (c : Bool) → leb b 1 ≡ c → is-garbled (if c then Bit b else (if eqb b silence then Silence else Garbled)) ≡ (ltb 1 b && not (eqb b silence))
     go true e = rw (le-ltb 1 b (leb-true b 1 e)) refl
     go false e = rw (lt-ltb 1 b (leb-false b 1 e)) (other (eqb b silence))

@@ -44,13 +44,7 @@ fn reach(len: usize) -> usize
 }
 
 // A station's outcome after the other, as far as the buffer goes.
-pub fn write(
-    value: [u8; 32],
-    grade: [u8; 32],
-    garbled: [u8; 32],
-    marks: u32,
-    outcomes: &mut [u8],
-)
+pub fn write(value: [u8; 32], grade: [u8; 32], garbled: [u8; 32], marks: u32, outcomes: &mut [u8])
     ensures { λ _. ⌜ now (outcomes .exit) ≡ over (now (outcomes .entry)) 0 (reach (length (now (outcomes .entry)))) (outcome-at value grade garbled marks) ⌝ }
 {
     let end = reach(outcomes.len());

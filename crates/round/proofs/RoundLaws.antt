@@ -26,7 +26,7 @@ use Rattle.broadcast.specs.Station.{Setup, State, opened, ballot, moved, next-c
 use Rattle.broadcast.proofs.RowLaws.{seconds-same, z-same, y-same}
 use Rattle.broadcast.proofs.RoundLaws.{after-count-le}
 use Rattle.broadcast.proofs.PartLaws.{part-sender, part-first, part-second, part-king, first-is, by-parts}
-use Rattle.step.specs.Part.{as-part}
+use Rattle.step.specs.Part.{as-part, of-part}
 use Rattle.step.specs.Noted.{noted}
 use Rattle.step.proofs.StepLaws.{told-as, moved-as}
 use Rattle.garbled.specs.Found.{found}
@@ -37,17 +37,22 @@ use Rattle.line.specs.Marks.{marked}
 use Rattle.post.proofs.PostLaws.{posted-as, posted-at, posted-before, posted-length}
 use Rattle.stations.specs.Counts.{votes-for}
 use Rattle.round.specs.declared.Stations.{Stations}
-use Rattle.round.specs.Round.{setup-at, state-at, said-by, Taken, speaker-within, takable, Takes, playable, Plays}
+use Rattle.round.specs.Round.{setup-at, state-at, said-by, Moves, Taken, speaker-within, takable, Takes, playable, Plays}
 
 -- a line of at most 32 has all its stations in an array
 pub all-of : (n : ℕ) (l : List ℕ) (F : ℕ → ℕ) → n ≤ 32 → Each 32 l F → Each n l F
 all-of n l F h each = each-fewer 32 n l F h each
 
--- each station's count, from what is found for it
-pub noted-found : (n : ℕ) (l before seen : List ℕ) (F : ℕ → ℕ) → n ≤ 32 → Each 32 l (λ j. noted (getD before j 0) (getD seen j 0)) → Each n seen F
-    → (j : ℕ) → j < n → getD l j 0 ≡ noted (getD before j 0) (F j)
-unfolding Each
-noted-found n l before seen F h each is j k = each j (omega arith) ∙ ap (noted (getD before j 0)) (is j k)
+-- with each station's count from what is found for it, the round is taken
+pub noted-found : (n t T sender : ℕ) (p q : Part) (senders : ℕ) (s : Stations) (log : List ℕ) (start : ℕ) (l seen : List ℕ) (s′ : Stations)
+    → n ≤ 32 → Each 32 l (λ j. noted (getD (s .garbled) j 0) (getD seen j 0)) → Each n seen (found n senders sender p log start)
+    → p ≡ q → Moves n t T sender q s l log start s′ → Taken n t T sender p senders s log start s′
+unfolding Each Moves Taken
+noted-found n t T sender p q senders s log start l seen s′ most each is e moves =
+    λ r j k.
+    moves r j k
+    ∙ ap (λ (g : ℕ). moved (setup-at n t T sender j) (state-at s r j) (column log start n j) g (of-part q)) (each j (omega arith) ∙ ap (noted (getD (s .garbled) j 0)) (is j k))
+    ∙ ap (λ (x : Part). moved (setup-at n t T sender j) (state-at s r j) (column log start n j) (noted (getD (s .garbled) j 0) (found n senders sender p log start j)) (of-part x)) (sym e)
 
 -- the same byte wanted of all
 pub wanted-is : (n v j : ℕ) → n ≤ 32 → j < n → each-of (replicate 32 v) j ≡ v

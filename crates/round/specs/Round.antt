@@ -31,6 +31,12 @@ state-at s r j =
 unfoldable pub said-by : ℕ → Part → Stations → ℕ → ℕ
 said-by sender p s i = told sender i (getD (s .value) i 0) (getD (s .z) i 0) (of-part p)
 
+-- for private functions, which are handed the counts after the round: each of the n stations has taken its column of the round that starts at `start`
+unfoldable pub Moves : ℕ → ℕ → ℕ → ℕ → Part → Stations → List ℕ → List ℕ → ℕ → Stations → Type 0
+Moves n t T sender p s garbled log start s′ =
+    (r j : ℕ) → j < n
+    → state-at s′ (r + 1) j ≡ moved (setup-at n t T sender j) (state-at s r j) (column log start n j) (getD garbled j 0) (of-part p)
+
 -- each of the n stations has taken its column of the round that starts at `start`. Of the ballots that it expects only those of `senders` are looked at for
 -- garbled ones, bit i for station i: who is left out is known to send none
 unfoldable pub Taken : ℕ → ℕ → ℕ → ℕ → Part → ℕ → Stations → List ℕ → ℕ → Stations → Type 0

@@ -1,10 +1,12 @@
 // One round of a whole line: what every station tells is posted to the log, and every station takes what the log has for it. The place i of an array is
 // the station counted i from 0; places beyond n are of no station, and open.
 ghost use mathlib.Core.Path.{_≡_};
+ghost use Prim.Native.Nat.{ℕ, _<_};
 ghost use mathlib.Core.Bool.{true};
 ghost use lib.ListN.{length};
 ghost use Rattle.line.specs.Line.{has-round};
-ghost use Rattle.round.specs.Round.{speaker-within, Taken, Takes, Plays};
+ghost use Rattle.step.specs.declared.Part.the-variants.{Sender, First, Second, King};
+ghost use Rattle.round.specs.Round.{Moves, speaker-within, Taken, Takes, Plays};
 use line::Line;
 use step::Part;
 
@@ -14,6 +16,92 @@ pub struct Stations {
     pub z: [u8; 32],
     pub grade: [u8; 32],
     pub garbled: [u8; 32],
+}
+
+// Round 1: each station's x is what it reads of the sender. Here and in the next three the counts handed in are those after the round.
+fn take_sender(
+    line: Line,
+    sender: u8,
+    s: Stations,
+    garbled: [u8; 32],
+    log: &[u8],
+    start: usize,
+) -> Stations
+    requires { ⌜ (has-round (line .n) start (length (now log)) ≡ true) × (sender < line .n) ⌝ }
+    ensures { λ r. ⌜ Moves (line .n) (line .t) (line .upper) sender Sender s garbled (now (log .entry)) start r ⌝ }
+{
+    let heard = column::sent_by(line, log, start, sender);
+    let value = stations::hear(heard);
+    let z = s.z;
+    let grade = s.grade;
+    Stations {
+        value,
+        z,
+        grade,
+        garbled,
+    }
+}
+
+// The first round of an exchange: z.
+fn take_first(line: Line, s: Stations, garbled: [u8; 32], log: &[u8], start: usize) -> Stations
+    requires { ⌜ has-round (line .n) start (length (now log)) ≡ true ⌝ }
+    ensures { λ r. ⌜ ((sender : ℕ) → Moves (line .n) (line .t) (line .upper) sender First s garbled (now (log .entry)) start r) ⌝ }
+{
+    let value = s.value;
+    let equal = column::count(line, log, start, &value);
+    let z = stations::choose(line, value, equal);
+    let grade = s.grade;
+    Stations {
+        value,
+        z,
+        grade,
+        garbled,
+    }
+}
+
+// The second: y and the grade.
+fn take_second(line: Line, s: Stations, garbled: [u8; 32], log: &[u8], start: usize) -> Stations
+    requires { ⌜ has-round (line .n) start (length (now log)) ≡ true ⌝ }
+    ensures { λ r. ⌜ ((sender : ℕ) → Moves (line .n) (line .t) (line .upper) sender Second s garbled (now (log .entry)) start r) ⌝ }
+{
+    let zero = [0u8; 32];
+    let one = [1u8; 32];
+    let zeros = column::count(line, log, start, &zero);
+    let ones = column::count(line, log, start, &one);
+    let value = stations::decide(zeros, ones);
+    let z = s.z;
+    let grade = stations::grade(line, zeros, ones);
+    Stations {
+        value,
+        z,
+        grade,
+        garbled,
+    }
+}
+
+// The king's round.
+fn take_king(
+    line: Line,
+    king: u8,
+    s: Stations,
+    garbled: [u8; 32],
+    log: &[u8],
+    start: usize,
+) -> Stations
+    requires { ⌜ (has-round (line .n) start (length (now log)) ≡ true) × (king < line .n) ⌝ }
+    ensures { λ r. ⌜ ((sender : ℕ) → Moves (line .n) (line .t) (line .upper) sender (King king) s garbled (now (log .entry)) start r) ⌝ }
+{
+    let heard = column::sent_by(line, log, start, king);
+    let y = s.value;
+    let z = s.z;
+    let grade = s.grade;
+    let value = stations::obey(grade, y, heard);
+    Stations {
+        value,
+        z,
+        grade,
+        garbled,
+    }
 }
 
 // What the stations make of the round that the log has from `start` on.
@@ -29,37 +117,14 @@ fn take_all(
     requires { ⌜ (has-round (line .n) start (length (now log)) ≡ true) × (speaker-within (line .n) sender part ≡ true) ⌝ }
     ensures { λ r. ⌜ Taken (line .n) (line .t) (line .upper) sender part senders s (now (log .entry)) start r ⌝ }
 {
-    let value = s.value;
-    let z = s.z;
-    let grade = s.grade;
     let before = s.garbled;
     let found = garbled::found(line, senders, sender, part, log, start);
     let garbled = stations::note(before, found);
     match part {
-        Part::Sender => {
-            let heard = column::sent_by(line, log, start, sender);
-            let value = stations::hear(heard);
-            Stations { value, z, grade, garbled }
-        }
-        Part::First => {
-            let equal = column::count(line, log, start, &value);
-            let z = stations::choose(line, value, equal);
-            Stations { value, z, grade, garbled }
-        }
-        Part::Second => {
-            let zero = [0u8; 32];
-            let one = [1u8; 32];
-            let zeros = column::count(line, log, start, &zero);
-            let ones = column::count(line, log, start, &one);
-            let value = stations::decide(zeros, ones);
-            let grade = stations::grade(line, zeros, ones);
-            Stations { value, z, grade, garbled }
-        }
-        Part::King(king) => {
-            let heard = column::sent_by(line, log, start, king);
-            let value = stations::obey(grade, value, heard);
-            Stations { value, z, grade, garbled }
-        }
+        Part::Sender => take_sender(line, sender, s, garbled, log, start),
+        Part::First => take_first(line, s, garbled, log, start),
+        Part::Second => take_second(line, s, garbled, log, start),
+        Part::King(king) => take_king(line, king, s, garbled, log, start),
     }
 }
 

@@ -29,7 +29,11 @@ pub(crate) struct SecondTally {
 fn hit(ballot: Ballot, v: u8) -> u8
     ensures { λ r. ⌜ r ≡ (if eqb (bit-or blank ballot) v then 1 else 0) ⌝ }
 {
-    if ballot.bit_or(Line::BLANK) == v { 1 } else { 0 }
+    if ballot.bit_or(Line::BLANK) == v {
+        1
+    } else {
+        0
+    }
 }
 
 pub(crate) fn firsts(row: &[u8], v: u8) -> FirstTally
@@ -63,5 +67,9 @@ pub(crate) fn seconds(row: &[u8]) -> SecondTally
         garbled += ballot.garbled();
         i += 1;
     }
-    SecondTally { zeros, ones, garbled }
+    SecondTally {
+        zeros,
+        ones,
+        garbled,
+    }
 }

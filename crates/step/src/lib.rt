@@ -7,12 +7,10 @@ ghost use Rattle.line.specs.Count.{if_then_else_};
 ghost use Rattle.line.specs.Ballot.{silence, bit-or};
 ghost use Rattle.broadcast.specs.Exchange.{z-from, y-from, for-y, grade-of, flag-of};
 ghost use Rattle.broadcast.specs.Broadcast.{part, obey};
-ghost use Rattle.broadcast.specs.Garbled.{reading};
 ghost use Rattle.broadcast.specs.Station.{told};
 ghost use Rattle.step.specs.Part.{as-part, of-part};
 ghost use Rattle.step.specs.Noted.{noted};
 use line::Line;
-use line::ballot;
 use line::ballot::Ballot;
 
 // Which part of a broadcast a round is: the sender's, the first or the second round of an exchange, or the king's, with the king's number.
@@ -56,18 +54,6 @@ pub fn told(part: Part, sender: u8, own: u8, value: u8, z: u8) -> u8
         Part::First => value,
         Part::Second => z,
         Part::King(king) => spoken(king, own, value),
-    }
-}
-
-// What a received byte was, in each part.
-pub fn read(part: Part, b: u8) -> Ballot
-    ensures { λ r. ⌜ r ≡ reading (of-part part) b ⌝ }
-{
-    match part {
-        Part::Sender => ballot::read_sender(b),
-        Part::First => ballot::read_first(b),
-        Part::Second => ballot::read_second(b),
-        Part::King(_) => ballot::read_king(b),
     }
 }
 

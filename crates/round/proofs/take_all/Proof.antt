@@ -1,18 +1,10 @@
--- `take_all` meets its contract, part by part.
+-- `take_all` meets its contract: the counts, then part by part.
 use borrow.Author.Needs.{needs}
-use Prim.Native.Nat.{_<_}
-use lib.ListN.{length, getD}
+use lib.ListN.{length}
 use borrow.Author.Tests.{ltb-true}
-use Rattle.line.specs.Writing.{Each}
 use Rattle.line.proofs.LineLaws.{round-means}
-use Rattle.broadcast.specs.Exchange.{z-from, y-from, for-y, grade-of}
-use Rattle.broadcast.specs.Station.{next, moved}
-use Rattle.stations.specs.Counts.{votes-for}
-use Rattle.column.specs.Column.{each-of}
-use Rattle.column.proofs.ColumnLaws.{sent-there}
-use Rattle.garbled.specs.Found.{found}
-use Rattle.round.specs.Round.{Taken}
-use Rattle.round.proofs.RoundLaws.{all-of, noted-found, wanted-is, z-made, y-made, grade-made}
+use Rattle.step.specs.declared.Part.the-variants.{Sender, First, Second, King}
+use Rattle.round.proofs.RoundLaws.{noted-found}
 use Rattle.round.proofs.take_all.Statement.{statement}
 use Rattle.round.proofs.take_all.Tie as tie
 
@@ -25,92 +17,62 @@ note-requires c κs = search needs
 enum-told : tie.Need-enum-told
 enum-told c = search needs
 
-sent-by-requires : tie.Need-sent-by-requires
-sent-by-requires c κs = search needs
-
-hear-requires : tie.Need-hear-requires
-hear-requires c κs = search needs
+take-sender-requires : tie.Need-take-sender-requires
+take-sender-requires c κs =
+    let s = c .before .before .before .before .before .before in
+    (s .pre .0, ltb-true _ _ (rw (c .enum-told .given .1) at (s .pre .1)))
 
 enum-told-2 : tie.Need-enum-told-2
 enum-told-2 c = search needs
 
-count-requires : tie.Need-count-requires
-count-requires c κs = search needs
-
-choose-requires : tie.Need-choose-requires
-choose-requires c κs = search needs
+take-first-requires : tie.Need-take-first-requires
+take-first-requires c κs = search needs
 
 enum-told-3 : tie.Need-enum-told-3
 enum-told-3 c = search needs
 
-count-requires-2 : tie.Need-count-requires-2
-count-requires-2 c κs = search needs
-
-count-requires-3 : tie.Need-count-requires-3
-count-requires-3 c κs = search needs
-
-decide-requires : tie.Need-decide-requires
-decide-requires c κs = search needs
-
-grade-requires : tie.Need-grade-requires
-grade-requires c κs = search needs
+take-second-requires : tie.Need-take-second-requires
+take-second-requires c κs = search needs
 
 enum-known-part : tie.Need-enum-known-part
 enum-known-part c = search needs
 
-sent-by-requires-2 : tie.Need-sent-by-requires-2
-sent-by-requires-2 c κs = search needs
-
-obey-requires : tie.Need-obey-requires
-obey-requires c κs = search needs
+take-king-requires : tie.Need-take-king-requires
+take-king-requires c κs =
+    let s = c .before .before .before .before .before .before .before in
+    (s .pre .0, ltb-true _ _ (rw (c .before .part .given .1) at (s .pre .1)))
 
 returns : tie.Need-returns
-unfolding Taken Each moved next
 returns c =
-    let m = c .before .before .before .before in
-    let s = m .before .before .before .before .before .before .before in
+    let m = c .before .before .before in
+    let s = m .before .before .before .before in
     let g = s .args in
-    let most = round-means (g .line .n) (g .start) (length (g .log .now)) (s .pre .0) .0 in
-    let k = noted-found (g .line .n) (m .note .result) (g .s .garbled) (m .before .found .result) (found (g .line .n) (g .senders) (g .sender) (g .part) (g .log .now) (g .start)) most (m .note .ensures) (m .before .found .ensures) in
-    let here : g .sender < g .line .n = ltb-true _ _ (rw (c .before .before .enum-told .given .1) at (s .pre .1)) in
-    λ r j h. rw (k j h, c .before .before .enum-told .given .1, all-of (g .line .n) _ _ most (c .hear .ensures) j h, c .before .sent-by .ensures j h, sent-there (g .line .n) (g .log .now) (g .start) (g .sender) here (s .pre .0) j)
+    noted-found (g .line .n) (g .line .t) (g .line .upper) (g .sender) (g .part) Sender (g .senders) (g .s) (g .log .now) (g .start) (m .note .result) (m .before .found .result) _
+    (round-means (g .line .n) (g .start) (length (g .log .now)) (s .pre .0) .0) (m .note .ensures) (m .before .found .ensures) (c .before .enum-told .given .1) (c .take-sender .ensures)
 
 returns-2 : tie.Need-returns-2
-unfolding Taken Each moved next each-of
 returns-2 c =
-    let m = c .before .before .before .before .before in
-    let s = m .before .before .before .before .before .before .before in
+    let m = c .before .before .before in
+    let s = m .before .before .before .before in
     let g = s .args in
-    let most = round-means (g .line .n) (g .start) (length (g .log .now)) (s .pre .0) .0 in
-    let k = noted-found (g .line .n) (m .note .result) (g .s .garbled) (m .before .found .result) (found (g .line .n) (g .senders) (g .sender) (g .part) (g .log .now) (g .start)) most (m .note .ensures) (m .before .found .ensures) in
-    let z = all-of (g .line .n) (c .choose .result) (λ j. z-from (g .line .n) (g .line .upper) (getD (g .s .value) j 0) (votes-for (getD (g .s .value) j 0) (getD (c .before .count .result) j 0))) most (c .choose .ensures) in
-    λ r j h. rw (k j h, c .before .before .before .enum-told2 .given .1, z j h, z-made (g .line .n) (g .start) (g .log .now) (s .pre .0) j (g .line .upper) _ (each-of (g .s .value)) (c .before .count .ensures j h))
+    noted-found (g .line .n) (g .line .t) (g .line .upper) (g .sender) (g .part) First (g .senders) (g .s) (g .log .now) (g .start) (m .note .result) (m .before .found .result) _
+    (round-means (g .line .n) (g .start) (length (g .log .now)) (s .pre .0) .0) (m .note .ensures) (m .before .found .ensures) (c .before .enum-told2 .given .1) (c .take-first .ensures (g .sender))
 
 returns-3 : tie.Need-returns-3
-unfolding Taken Each moved next
 returns-3 c =
-    let m = c .before .before .before .before .before .before .before .before in
-    let s = m .before .before .before .before .before .before .before in
+    let m = c .before .before .before in
+    let s = m .before .before .before .before in
     let g = s .args in
-    let most = round-means (g .line .n) (g .start) (length (g .log .now)) (s .pre .0) .0 in
-    let k = noted-found (g .line .n) (m .note .result) (g .s .garbled) (m .before .found .result) (found (g .line .n) (g .senders) (g .sender) (g .part) (g .log .now) (g .start)) most (m .note .ensures) (m .before .found .ensures) in
-    let zs = c .before .before .before .before .count2 in
-    let os = c .before .before .count3 in
-    let y = all-of (g .line .n) (c .before .decide .result) (λ j. y-from (getD (zs .result) j 0) (getD (os .result) j 0)) most (c .before .decide .ensures) in
-    let grade = all-of (g .line .n) (c .grade2 .result) (λ j. grade-of (g .line .n) (g .line .t) (g .line .upper) (for-y (getD (zs .result) j 0) (getD (os .result) j 0))) most (c .grade2 .ensures) in
-    λ r j h. rw (k j h, c .before .before .before .before .before .before .enum-told3 .given .1, y j h, grade j h, y-made (g .line .n) (g .start) (g .log .now) (s .pre .0) j _ _ _ _ (wanted-is _ 0 j most h) (wanted-is _ 1 j most h) (zs .ensures j h) (os .ensures j h), grade-made (g .line .n) (g .start) (g .log .now) (s .pre .0) j _ _ _ _ (wanted-is _ 0 j most h) (wanted-is _ 1 j most h) (zs .ensures j h) (os .ensures j h) (g .line .t) (g .line .upper))
+    noted-found (g .line .n) (g .line .t) (g .line .upper) (g .sender) (g .part) Second (g .senders) (g .s) (g .log .now) (g .start) (m .note .result) (m .before .found .result) _
+    (round-means (g .line .n) (g .start) (length (g .log .now)) (s .pre .0) .0) (m .note .ensures) (m .before .found .ensures) (c .before .enum-told3 .given .1) (c .take-second .ensures (g .sender))
 
 returns-4 : tie.Need-returns-4
-unfolding Taken Each moved next
 returns-4 c =
-    let m = c .before .before .before .before .before in
-    let s = m .before .before .before .before .before .before .before in
+    let m = c .before .before .before .before in
+    let s = m .before .before .before .before in
     let g = s .args in
-    let king = c .before .before .before .part .given .0 .0 in
-    let most = round-means (g .line .n) (g .start) (length (g .log .now)) (s .pre .0) .0 in
-    let k = noted-found (g .line .n) (m .note .result) (g .s .garbled) (m .before .found .result) (found (g .line .n) (g .senders) (g .sender) (g .part) (g .log .now) (g .start)) most (m .note .ensures) (m .before .found .ensures) in
-    let here : king < g .line .n = ltb-true _ _ (rw (c .before .before .before .part .given .1) at (s .pre .1)) in
-    λ r j h. rw (k j h, c .before .before .before .part .given .1, all-of (g .line .n) _ _ most (c .obey .ensures) j h, c .before .sent-by2 .ensures j h, sent-there (g .line .n) (g .log .now) (g .start) king here (s .pre .0) j)
+    noted-found (g .line .n) (g .line .t) (g .line .upper) (g .sender) (g .part) (King (c .before .before .part .given .0 .0)) (g .senders) (g .s) (g .log .now) (g .start) (m .note .result) (m .before .found .result) _
+    (round-means (g .line .n) (g .start) (length (g .log .now)) (s .pre .0) .0) (m .note .ensures) (m .before .found .ensures) (c .before .before .part .given .1) (c .take-king .ensures (g .sender))
 
 pub take-all-spec : {M : Type 1} → statement M
 take-all-spec =
@@ -119,19 +81,13 @@ take-all-spec =
     found-requires
     note-requires
     enum-told
-    sent-by-requires
-    hear-requires
+    take-sender-requires
     enum-told-2
-    count-requires
-    choose-requires
+    take-first-requires
     enum-told-3
-    count-requires-2
-    count-requires-3
-    decide-requires
-    grade-requires
+    take-second-requires
     enum-known-part
-    sent-by-requires-2
-    obey-requires
+    take-king-requires
     returns
     returns-2
     returns-3
