@@ -6,6 +6,7 @@ use std::io::{self, Read};
 use crate::check::check;
 use crate::line::{Cause, Marks, LARGEST_TABLE, STATIONS};
 use crate::listing::refusal;
+use crate::outcome::OUTCOME;
 
 /// What is said where the words are wrong.
 pub const WANTED: &str =
@@ -38,7 +39,7 @@ impl<'a> Asked<'a> {
     /// What the checker answers. The log's file is read first.
     pub fn checked(&self) -> Result<Result<Marks, Cause>, Unread<'a>> {
         let log = read(self.log, LARGEST_TABLE)?;
-        let outcomes = read(self.outcomes, 3 * STATIONS)?;
+        let outcomes = read(self.outcomes, OUTCOME * STATIONS)?;
         Ok(check((self.n, self.t, self.upper), self.sender, &log, &outcomes))
     }
 }

@@ -186,7 +186,7 @@ fn step(round: u8) -> [Nanoseconds; 3] {
     let next = station.take(&row).expect("a running station");
     let (mut handed, mut copied) = (row.clone(), row.clone());
     let advanced = ffi::advance(&station, ReadOnly(Handed::all(&mut handed)));
-    assert_eq!(advanced, u64::from(ffi::state(&next)), "the stations differ");
+    assert_eq!(advanced, ffi::state(&next), "the stations differ");
     time_in_turn(
         SAMPLES,
         [

@@ -1,8 +1,10 @@
 //! The checker for all stations at once, round by round, as quick as safe Rust makes it. It gives what `check` gives.
 
+use crate::ballot::{read_first, read_second, read_sender, sender_value};
 use crate::check::Judged;
-use crate::exchange::{graded_of_all, write_outcomes, z_of_all, PerStation};
-use crate::line::{read_sender, Cause, Header, Line, Marks, Part, SILENCE, STATIONS};
+use crate::exchange::{graded_of_all, note_garbled, write_outcomes, z_of_all, PerStation};
+use crate::line::{Cause, Header, Line, Marks, Part, SILENCE, STATIONS};
+use crate::outcome::OUTCOME;
 use crate::rehearsal::Stations;
 
 /// As many bytes of the log as the largest line's row has, from a row's start on. Those beyond the row aren't used: so
@@ -35,7 +37,7 @@ struct Checking<'a> {
 
 impl Checking<'_> {
     /// Looks at each station's row of a round. How many stations keep to their ballot, 0 or 1, and say it to all; the rows
-    /// of those that broke the rules, now or before, are taken one by one.
+    /// of those that broke the rules, now or before, are taken one by one. No other row can have a garbled ballot.
     fn listen(&mut self, round: u8, ballots: &PerStation, mut take: impl FnMut(&PerStation)) -> [u8; 2] {
         let mut alike = [0; 2];
         let starts = (self.line.place(round, 1, 1)..).step_by(self.line.n());
@@ -60,20 +62,26 @@ impl Checking<'_> {
     /// The first round of an exchange.
     fn first(&mut self, round: u8) {
         let x = self.stations.value;
-        let mut equal = [0; STATIONS];
-        let alike = self.listen(round, &x, |row| count(&mut equal, row, &x));
+        let (mut equal, mut garbled) = ([0; STATIONS], [0; STATIONS]);
+        let alike = self.listen(round, &x, |row| {
+            count(&mut equal, row, &x);
+            note_garbled(&mut garbled, row, read_first);
+        });
+        self.stations.count(&garbled);
         let equal = std::array::from_fn(|to| equal[to] + alike[usize::from(x[to])]);
         self.stations.z = z_of_all(&self.line, &x, &equal);
     }
 
     /// The second round of an exchange.
     fn second(&mut self, round: u8) {
-        let (mut zeros, mut ones) = ([0; STATIONS], [0; STATIONS]);
+        let (mut zeros, mut ones, mut garbled) = ([0; STATIONS], [0; STATIONS], [0; STATIONS]);
         let ballots = self.stations.z;
         let alike = self.listen(round, &ballots, |row| {
             count(&mut zeros, row, &[0; STATIONS]);
             count(&mut ones, row, &[1; STATIONS]);
+            note_garbled(&mut garbled, row, read_second);
         });
+        self.stations.count(&garbled);
         let [zeros, ones] = [zeros.map(|many| many + alike[0]), ones.map(|many| many + alike[1])];
         (self.stations.value, self.stations.grade) = graded_of_all(&self.line, &zeros, &ones);
     }
@@ -105,15 +113,15 @@ pub fn check_by_round(
     let Judged { line, .. } = Judged::new(numbers, sender, log, outcomes)?;
     let (n, t, upper) = numbers;
     // no value but the first byte that it says can be the sender's
-    let value = read_sender(log[line.place(1, sender, 1)]);
+    let value = sender_value(read_sender(log[line.place(1, sender, 1)]));
     let header = Header { n, t, upper, sender, value, marks: Marks(0) };
     let within = std::array::from_fn(|place| if place < line.n() { 255 } else { 0 });
     let mut checking = Checking { line, log, stations: Stations::opened(line, &header), within, broke: 0 };
     (1..=line.rounds()).for_each(|round| checking.round(round));
 
-    let mut ends = [0; 3 * STATIONS];
-    write_outcomes(&line, header.marks, &checking.stations.value, &checking.stations.grade, &mut ends);
-    let ends = line.stations().zip(outcomes.chunks_exact(3).zip(ends.chunks_exact(3)));
+    let mut ends = [0; OUTCOME * STATIONS];
+    write_outcomes(&line, header.marks, &checking.stations.ends(), &mut ends);
+    let ends = line.stations().zip(outcomes.chunks_exact(OUTCOME).zip(ends.chunks_exact(OUTCOME)));
     let other = Marks::of(ends.filter(|(_, (logged, end))| logged != end).map(|(station, _)| station));
     Ok(Marks(checking.broke | other.0))
 }

@@ -1,6 +1,7 @@
 //! The checker of logs: which stations broke the rules, by a log and outcomes of any maker.
 
 use crate::line::{require, Cause, Line, Marks};
+use crate::outcome::outcome;
 use crate::station::{Answer, Station};
 
 /// A log and outcomes, once they are judged.
@@ -45,9 +46,7 @@ impl<'a> Judged<'a> {
             let row: Vec<u8> = self.line.stations().map(|from| self.byte(round, from, own)).collect();
             station = station.take(&row).expect("a row of n bytes");
         }
-        let outcome = &self.outcomes[3 * (usize::from(own) - 1)..][..3];
-        let logged = Answer::Done { value: outcome[0], grade: outcome[1], flag: outcome[2] };
-        station.result() == Ok(logged)
+        station.result() == Ok(Answer::Done(outcome(self.outcomes, own)))
     }
 
     fn byte(&self, round: u8, from: u8, to: u8) -> u8 {

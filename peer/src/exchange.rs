@@ -1,7 +1,9 @@
 //! The graded exchange (graded consensus): what a station makes of its two rows, the same for
 //! every receiver of a round at once, and the exchange had alone.
 
+use crate::ballot::{read_first, read_second, Ballot};
 use crate::line::{require, Cause, Line, Marks, BLANK, STATIONS};
+use crate::outcome::{Outcome, BAD, OUTCOME};
 
 /// A byte for each station. Places beyond n are not used.
 pub type PerStation = [u8; STATIONS];
@@ -12,19 +14,31 @@ pub struct Tally {
     pub zeros: u8,
     pub ones: u8,
     pub neither: u8,
+    /// How many of those that count for neither were garbled.
+    pub garbled: u8,
 }
 
 impl Tally {
-    /// The tally of either round. "In the first round of an exchange a byte other than 0 or 1 now counts for
-    /// neither value"; in the second it is read as blank, and "blanks count for neither".
-    pub fn of(row: &[u8]) -> Tally {
+    /// The tally of the first round: "a byte other than 0 or 1 now counts for neither value".
+    pub fn of_first(row: &[u8]) -> Tally {
+        Tally::of(row, read_first)
+    }
+
+    /// The tally of the second round, where such a byte is read as blank, and "blanks count for neither".
+    pub fn of_second(row: &[u8]) -> Tally {
+        Tally::of(row, read_second)
+    }
+
+    fn of(row: &[u8], read: impl Fn(u8) -> Ballot) -> Tally {
         let mut tally = Tally::default();
-        for byte in row {
-            match byte {
-                0 => tally.zeros += 1,
-                1 => tally.ones += 1,
-                _ => tally.neither += 1,
+        for &byte in row {
+            let ballot = read(byte);
+            match ballot {
+                Ballot::Bit(0) => tally.zeros += 1,
+                Ballot::Bit(_) => tally.ones += 1,
+                Ballot::Blank | Ballot::Silence | Ballot::Garbled => tally.neither += 1,
             }
+            tally.garbled += u8::from(ballot.is_garbled());
         }
         tally
     }
@@ -36,15 +50,7 @@ impl Tally {
 
     /// Steps 4 and 5: y, and how well it is backed.
     pub fn graded(&self, line: &Line) -> (u8, u8) {
-        let (y, backing) = if self.zeros > self.ones { (0, self.zeros) } else { (1, self.ones) };
-        let grade = if backing >= line.full_quorum() {
-            2
-        } else if backing >= line.quorum() {
-            1
-        } else {
-            0
-        };
-        (y, grade)
+        graded_of(line, self.zeros, self.ones)
     }
 }
 
@@ -57,9 +63,17 @@ fn z_of(line: &Line, x: u8, equal: u8) -> u8 {
     }
 }
 
-/// The flag is 1 when the grade is below 2.
-pub fn flag(grade: u8) -> u8 {
-    u8::from(grade < 2)
+/// Steps 4 and 5, by the zeros and ones.
+fn graded_of(line: &Line, zeros: u8, ones: u8) -> (u8, u8) {
+    let (y, backing) = if zeros > ones { (0, zeros) } else { (1, ones) };
+    let grade = if backing >= line.full_quorum() {
+        2
+    } else if backing >= line.quorum() {
+        1
+    } else {
+        0
+    };
+    (y, grade)
 }
 
 /// For each receiver, how many of a round's n·n bytes to it are the one that is `wanted` of it.
@@ -91,12 +105,9 @@ pub fn hear_second(line: &Line, said: &[u8]) -> (PerStation, PerStation) {
 
 /// Steps 4 and 5 at every receiver, by its zeros and ones.
 pub fn graded_of_all(line: &Line, zeros: &PerStation, ones: &PerStation) -> (PerStation, PerStation) {
-    let n = line.n() as u8;
     let (mut y, mut grade) = ([0; STATIONS], [0; STATIONS]);
     for station in 0..line.n() {
-        let (a, b) = (zeros[station], ones[station]);
-        let tally = Tally { zeros: a, ones: b, neither: n - a - b };
-        (y[station], grade[station]) = tally.graded(line);
+        (y[station], grade[station]) = graded_of(line, zeros[station], ones[station]);
     }
     (y, grade)
 }
@@ -114,12 +125,38 @@ pub fn speak(line: &Line, marks: Marks, ballots: &PerStation, table: &[u8], said
     }
 }
 
-/// Writes three bytes a station: value, grade and flag, or 255 three times for a bad one.
-pub fn write_outcomes(line: &Line, marks: Marks, y: &PerStation, grade: &PerStation, outcomes: &mut [u8]) {
-    for (outcome, station) in outcomes.chunks_exact_mut(3).zip(line.stations()) {
+/// Notes each receiver that gets a garbled ballot in a row of n bytes.
+pub fn note_garbled(noted: &mut PerStation, from_one: &[u8], read: impl Fn(u8) -> Ballot) {
+    for (noted, &byte) in noted.iter_mut().zip(from_one) {
+        *noted |= u8::from(read(byte).is_garbled());
+    }
+}
+
+/// One for each receiver that gets at least one garbled ballot in these rows, which are those of whom it expects one.
+pub fn garbled(line: &Line, expected: &[u8], read: impl Fn(u8) -> Ballot) -> PerStation {
+    let mut noted = [0; STATIONS];
+    expected.chunks_exact(line.n()).for_each(|from_one| note_garbled(&mut noted, from_one, &read));
+    noted
+}
+
+/// The counts with one more round.
+pub fn counted(counts: &PerStation, garbled: &PerStation) -> PerStation {
+    std::array::from_fn(|station| counts[station] + garbled[station])
+}
+
+/// What the stations end with. What stands at a bad station's place is never used.
+pub struct Ends<'a> {
+    pub y: &'a PerStation,
+    pub grade: &'a PerStation,
+    pub count: &'a PerStation,
+}
+
+/// Writes each station's outcome.
+pub fn write_outcomes(line: &Line, marks: Marks, ends: &Ends, outcomes: &mut [u8]) {
+    for (outcome, station) in outcomes.chunks_exact_mut(OUTCOME).zip(line.stations()) {
         let at = usize::from(station) - 1;
-        let good = [y[at], grade[at], flag(grade[at])];
-        outcome.copy_from_slice(if marks.bad(station) { &[255; 3] } else { &good });
+        let good = Outcome::new(ends.y[at], ends.grade[at], ends.count[at]).to_bytes();
+        outcome.copy_from_slice(if marks.bad(station) { &BAD } else { &good });
     }
 }
 
@@ -148,8 +185,10 @@ pub fn alone(
     let (first, second) = table.split_at(line.round_len());
     speak(&line, marks, &x, first, said);
     let z = hear_first(&line, said, &x);
+    let garbled_first = garbled(&line, said, read_first);
     speak(&line, marks, &z, second, said);
     let (y, grade) = hear_second(&line, said);
-    write_outcomes(&line, marks, &y, &grade, outcomes);
+    let count = counted(&garbled_first, &garbled(&line, said, read_second));
+    write_outcomes(&line, marks, &Ends { y: &y, grade: &grade, count: &count }, outcomes);
     Ok(())
 }

@@ -1,14 +1,15 @@
 //! The verified implementation's calls, from its static libraries. All unsafe code stands here.
 //!
-//! Bytes are handed over as a pointer and a length. An answer of 64 bits has the refusal's number above,
-//! 0 where nothing is refused, and the values below.
+//! Bytes are handed over as a pointer and a length. An answer of 64 bits has the refusal's number in its highest byte,
+//! 0 where nothing is refused, and the values below, lowest byte first.
 #![allow(unsafe_code)]
 
 use std::marker::PhantomData;
 use std::ops::Range;
 
 use crate::line::Header;
-use crate::station::Station;
+use crate::lot::Lot;
+use crate::station::{Station, STATION};
 
 mod exported {
     unsafe extern "C" {
@@ -64,19 +65,19 @@ mod exported {
             outcomes_len: usize,
         ) -> u64;
         pub fn vembopu_open(n: u8, t: u8, upper: u8, sender: u8, own: u8, value: u8) -> u64;
-        pub fn vembopu_ballot(n: u8, t: u8, upper: u8, sender: u8, own: u8, state: u32) -> u64;
+        pub fn vembopu_ballot(n: u8, t: u8, upper: u8, sender: u8, own: u8, state: u64) -> u64;
         pub fn vembopu_advance(
             n: u8,
             t: u8,
             upper: u8,
             sender: u8,
             own: u8,
-            state: u32,
+            state: u64,
             row: *const u8,
             row_len: usize,
         ) -> u64;
         pub fn vembopu_advance_lent(station: *mut u8, row: *const u8, row_len: usize) -> u8;
-        pub fn vembopu_result(n: u8, t: u8, upper: u8, sender: u8, own: u8, state: u32) -> u64;
+        pub fn vembopu_result(n: u8, t: u8, upper: u8, sender: u8, own: u8, state: u64) -> u64;
     }
 }
 
@@ -105,9 +106,30 @@ impl<'a> Handed<'a> {
 /// Bytes that a call may only read. They stand where it could write, so that it would be seen if it did.
 pub struct ReadOnly<'a>(pub Handed<'a>);
 
-/// A station's state as a number: round, value, z and grade, lowest byte first.
-pub fn state(station: &Station) -> u32 {
-    u32::from_le_bytes([station.round, station.value, station.z, station.grade])
+/// Where an answer has the refusal's number.
+const REFUSAL: u32 = 56;
+
+/// The number in its place, above these values.
+pub fn refused(number: u8, values: u64) -> u64 {
+    u64::from(number) << REFUSAL | values
+}
+
+/// The refusal's number of an answer, 0 where nothing is refused.
+pub fn refusal(answer: u64) -> u8 {
+    (answer >> REFUSAL) as u8
+}
+
+/// A station's state as a number: round, value, z, grade and count, lowest byte first.
+pub fn state(station: &Station) -> u64 {
+    let Station { round, value, z, grade, count, .. } = *station;
+    u64::from_le_bytes([round, value, z, grade, count, 0, 0, 0])
+}
+
+/// The state as it is handed in: with any three bytes above it, which aren't looked at. They are the same ones for the same
+/// station.
+fn handed_state(station: &Station) -> u64 {
+    let sum = station.to_bytes().iter().fold(0, |sum: u64, &byte| 31 * sum + u64::from(byte));
+    state(station) | Lot(sum).word() >> 40 << 40
 }
 
 /// Reads a sheet into a lent run table: the refusal's number.
@@ -199,7 +221,7 @@ pub fn open((n, t, upper): (u8, u8, u8), sender: u8, own: u8, value: u8) -> u64 
 pub fn ballot(station: &Station) -> u64 {
     let Station { n, t, upper, sender, own, .. } = *station;
     // SAFETY: numbers only.
-    unsafe { exported::vembopu_ballot(n, t, upper, sender, own, state(station)) }
+    unsafe { exported::vembopu_ballot(n, t, upper, sender, own, handed_state(station)) }
 }
 
 /// A station takes a row: its next state, or the same where the row is refused.
@@ -207,22 +229,22 @@ pub fn advance(station: &Station, row: ReadOnly) -> u64 {
     let Station { n, t, upper, sender, own, .. } = *station;
     let row = &row.0;
     // SAFETY: as for `read`.
-    unsafe { exported::vembopu_advance(n, t, upper, sender, own, state(station), row.start, row.len) }
+    unsafe { exported::vembopu_advance(n, t, upper, sender, own, handed_state(station), row.start, row.len) }
 }
 
-/// A lent station, nine bytes, takes a row where it stands: the refusal's number.
+/// A lent station takes a row where it stands: the refusal's number.
 pub fn advance_lent(station: Handed, row: ReadOnly) -> u8 {
-    assert_eq!(station.len, 9, "a lent station has nine bytes");
+    assert_eq!(station.len, STATION, "a lent station has so many bytes");
     let row = &row.0;
     // SAFETY: as for `read`.
     unsafe { exported::vembopu_advance_lent(station.start, row.start, row.len) }
 }
 
-/// A station's result: byte 0 is 0 and byte 1 the round, or byte 0 is 1, then value, grade and flag.
+/// A station's result: byte 0 is 0 and byte 1 the round, or byte 0 is 1, then value, grade, flag and count.
 pub fn result(station: &Station) -> u64 {
     let Station { n, t, upper, sender, own, .. } = *station;
     // SAFETY: numbers only.
-    unsafe { exported::vembopu_result(n, t, upper, sender, own, state(station)) }
+    unsafe { exported::vembopu_result(n, t, upper, sender, own, handed_state(station)) }
 }
 
 /// Calls that write to what they may only read, for the tests.

@@ -1,4 +1,4 @@
-//! A second implementation of document 01 with Tickets 1 to 3 of document 02: Byzantine agreement on one bit with two
+//! A second implementation of document 01 with Tickets 1 to 4 of document 02: Byzantine agreement on one bit with two
 //! thresholds.
 //!
 //! It shares no code and no table with the crates, so that the two can be compared byte for byte.
@@ -7,6 +7,7 @@
 #![deny(unsafe_code)]
 
 pub mod audit;
+pub mod ballot;
 #[cfg(feature = "verified")]
 pub mod bench;
 pub mod by_round;
@@ -23,6 +24,7 @@ pub mod line;
 pub mod listing;
 pub mod logs;
 pub mod lot;
+pub mod outcome;
 pub mod rehearsal;
 pub mod runs;
 pub mod sheet;

@@ -1,5 +1,7 @@
 //! The line: stations, thresholds, rounds, marks, ballot bytes, and the causes of refusal.
 
+use crate::outcome::OUTCOME;
+
 /// The most stations a line can have.
 pub const STATIONS: usize = 32;
 /// The bytes of the largest run table: n 32, t 10, 36 rounds.
@@ -65,8 +67,8 @@ impl Cause {
             Cause::Value => "the value, or an unmarked station's input to an exchange, is not 0 or 1",
             Cause::MarkBeyond => "a mark stands beyond station n",
             Cause::StationState => {
-                "a station's round is outside 1 to R + 1, its value above 1, its z or grade above 2; or a ballot \
-                 or row is wanted of a done station"
+                "a station's round is outside 1 to R + 1, its value above 1, its z or grade above 2, its count of \
+                 garbled rounds not below its round; or a ballot or row is wanted of a done station"
             }
             Cause::Length => {
                 "a table, log, outcome, input, row or sheet to be written is not of its exact length"
@@ -89,20 +91,6 @@ pub fn require(holds: bool, cause: Cause) -> Result<(), Cause> {
         Ok(())
     } else {
         Err(cause)
-    }
-}
-
-/// The sender's ballot: "a byte other than 0 or 1 is read as 0".
-pub fn read_sender(byte: u8) -> u8 {
-    u8::from(byte == 1)
-}
-
-/// The king's ballot at grade 0: "a king's unreadable ballot leaves a grade 0 station with its own y".
-pub fn read_king(byte: u8, y: u8) -> u8 {
-    if byte <= 1 {
-        byte
-    } else {
-        y
     }
 }
 
@@ -183,9 +171,9 @@ impl Line {
         usize::from(self.rounds()) * self.round_len()
     }
 
-    /// The bytes of the outcomes: three a station.
+    /// The bytes of the outcomes.
     pub fn outcomes_len(&self) -> usize {
-        3 * self.n()
+        OUTCOME * self.n()
     }
 
     /// Where the byte of this round stands, from one station to another.

@@ -3,6 +3,7 @@
 use std::fmt::Write;
 
 use crate::line::{Cause, Header, Line};
+use crate::outcome::{outcomes, OUTCOME};
 use crate::rehearsal::rehearse;
 use crate::sheet;
 
@@ -41,14 +42,12 @@ pub fn refusal(cause: Cause) -> String {
 fn accepted(run: &Run) -> String {
     let Header { n, t, upper, sender, .. } = run.header;
     let mut text = format!("agree {n} {t} {upper} {sender} {}\n", run.line.rounds());
-    for (station, outcome) in run.line.stations().zip(run.outcomes.chunks_exact(3)) {
-        let [value, grade, flag] = [outcome[0], outcome[1], outcome[2]];
-        let written = if run.header.marks.bad(station) {
-            writeln!(text, "{station} - - -")
-        } else {
-            writeln!(text, "{station} {value} {grade} {flag}")
+    for (station, outcome) in run.line.stations().zip(outcomes(&run.outcomes)) {
+        let fields = match run.header.marks.bad(station) {
+            true => ["-"; OUTCOME].join(" "),
+            false => outcome.to_bytes().map(|byte| byte.to_string()).join(" "),
         };
-        written.expect("a string takes any text");
+        writeln!(text, "{station} {fields}").expect("a string takes any text");
     }
     text
 }

@@ -3,6 +3,7 @@
 use crate::check::check;
 use crate::line::{Cause, Header, Line, Marks};
 use crate::lot::Lot;
+use crate::outcome::{place, Outcome};
 use crate::rehearsal::rehearse;
 use crate::station::{Answer, Station};
 
@@ -30,20 +31,26 @@ impl Logged {
     }
 
     /// How a good station ends that takes its rows of the log.
-    fn end(&self, line: &Line, own: u8) -> [u8; 3] {
+    fn end(&self, line: &Line, own: u8) -> Outcome {
         let mut station = Station::open(self.numbers, self.sender, own, 0).expect("a station of the line");
         for round in 1..=line.rounds() {
             let row: Vec<u8> = line.stations().map(|from| self.log[line.place(round, from, own)]).collect();
             station = station.take(&row).expect("a row of n bytes");
         }
         match station.result() {
-            Ok(Answer::Done { value, grade, flag }) => [value, grade, flag],
+            Ok(Answer::Done(outcome)) => outcome,
             answer => panic!("a station that isn't done: {answer:?}"),
         }
     }
 
-    fn set_outcome(&mut self, station: u8, outcome: [u8; 3]) {
-        self.outcomes[3 * (usize::from(station) - 1)..][..3].copy_from_slice(&outcome);
+    fn set_outcome(&mut self, station: u8, outcome: Outcome) {
+        self.outcomes[place(station)].copy_from_slice(&outcome.to_bytes());
+    }
+
+    /// One round more or less in a station's count, with the rest of its outcome.
+    fn miscount(&mut self, lot: &mut Lot, station: u8) {
+        let count = &mut self.outcomes[place(station).end - 1];
+        *count = count.wrapping_add(lot.pick(&[1, 255]));
     }
 
     /// Changes something in a log and outcomes of the line's lengths.
@@ -51,13 +58,14 @@ impl Logged {
         let station = |lot: &mut Lot| 1 + lot.below(line.n() as u64) as u8;
         let (round, one, other) = (1 + lot.below(line.rounds().into()) as u8, station(lot), station(lot));
         let byte = lot.ballot();
-        match lot.below(8) {
+        match lot.below(9) {
             0 | 1 => self.log[line.place(round, one, other)] = byte,
             2 => self.outcomes[lot.below(line.outcomes_len() as u64) as usize] = byte,
             3 => self.set_outcome(one, self.end(line, one)),
             4 => line.stations().for_each(|one| self.set_outcome(one, self.end(line, one))),
             5 => self.swap_rows(line, (round, one), (1 + lot.below(line.rounds().into()) as u8, other)),
             6 => self.row(line, round, one).fill(byte),
+            7 => self.miscount(lot, one),
             _ => self.row(line, 1, self.sender).fill(byte),
         }
     }

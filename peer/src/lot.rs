@@ -27,7 +27,8 @@ impl Lot {
     /// A ballot byte: any of the known ones, or any byte.
     pub fn ballot(&mut self) -> u8 {
         let byte = self.byte();
-        self.pick(&[0, 1, 2, 255, byte])
+        let other = self.pick(&[3, 254, byte]);
+        self.pick(&[0, 1, 2, 255, other])
     }
 
     pub fn one_in(&mut self, many: u64) -> bool {
@@ -91,13 +92,16 @@ impl Lot {
 
     /// As many bytes of a table.
     pub fn ballots(&mut self, line: &Line, len: usize) -> Vec<u8> {
-        let habit = self.below(5);
+        let habit = self.below(6);
+        let seldom = self.pick(&[line.n(), line.round_len()]) as u64;
         let split = 1 + self.below(line.n() as u64) as usize;
         let byte = |lot: &mut Lot, place: usize| match habit {
             0 => lot.byte(),
             1 => lot.pick(&[0, 1, 2, 255, 77]),
             2 => lot.below(2) as u8,
             3 => u8::from(place % line.n() < split) ^ u8::from(lot.one_in(20)),
+            4 if lot.one_in(seldom) => lot.ballot(),
+            4 => lot.pick(&[0, 1, 255]),
             _ => lot.pick(&[0, 1, 1, 2]),
         };
         (0..len).map(|place| byte(self, place)).collect()

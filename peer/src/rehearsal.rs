@@ -1,7 +1,8 @@
 //! The rehearsal of a whole broadcast: every round's ballots into the log, then the outcomes.
 
-use crate::exchange::{hear_first, hear_second, speak, write_outcomes, PerStation};
-use crate::line::{read_king, read_sender, require, Cause, Header, Line, Part, BLANK, SILENCE, STATIONS};
+use crate::ballot::{king_value, read_first, read_king, read_second, read_sender, sender_value};
+use crate::exchange::{counted, garbled, hear_first, hear_second, speak, write_outcomes, Ends, PerStation};
+use crate::line::{require, Cause, Header, Line, Part, BLANK, SILENCE, STATIONS};
 
 /// What the stations hold between two rounds. What stands at a bad station's place is never used.
 pub(crate) struct Stations<'a> {
@@ -11,12 +12,15 @@ pub(crate) struct Stations<'a> {
     pub value: PerStation,
     pub z: PerStation,
     pub grade: PerStation,
+    /// The rounds in which at least one ballot that it expected was garbled.
+    count: PerStation,
 }
 
 impl<'a> Stations<'a> {
     /// Before the first round.
     pub fn opened(line: Line, header: &'a Header) -> Stations<'a> {
-        Stations { line, header, value: [0; STATIONS], z: [BLANK; STATIONS], grade: [0; STATIONS] }
+        let (zeros, z) = ([0; STATIONS], [BLANK; STATIONS]);
+        Stations { line, header, value: zeros, z, grade: zeros, count: zeros }
     }
 
     /// What each station sends if it is good, 255 where it doesn't speak.
@@ -29,13 +33,30 @@ impl<'a> Stations<'a> {
         }
     }
 
+    /// One more round for those to whom a ballot that they expected came garbled.
+    pub fn count(&mut self, garbled: &PerStation) {
+        self.count = counted(&self.count, garbled);
+    }
+
+    /// Who gets a garbled ballot in a round: "from all in exchange rounds, else from the sender or the king".
+    fn garbled(&self, part: Part, said: &[u8]) -> PerStation {
+        let line = &self.line;
+        match part {
+            Part::Sender => garbled(line, line.from_one(self.header.sender, said), read_sender),
+            Part::First => garbled(line, said, read_first),
+            Part::Second => garbled(line, said, read_second),
+            Part::King(king) => garbled(line, line.from_one(king, said), read_king),
+        }
+    }
+
     /// Each station takes what was said to it in a round.
     pub fn hear(&mut self, part: Part, said: &[u8]) {
+        self.count(&self.garbled(part, said));
         match part {
             Part::Sender => {
                 let bytes = self.line.from_one(self.header.sender, said);
                 for (x, &byte) in self.value.iter_mut().zip(bytes) {
-                    *x = read_sender(byte);
+                    *x = sender_value(read_sender(byte));
                 }
             }
             Part::First => self.z = hear_first(&self.line, said, &self.value),
@@ -44,11 +65,16 @@ impl<'a> Stations<'a> {
                 let bytes = self.line.from_one(king, said);
                 for ((value, &grade), &byte) in self.value.iter_mut().zip(&self.grade).zip(bytes) {
                     if grade == 0 {
-                        *value = read_king(byte, *value);
+                        *value = king_value(read_king(byte), *value);
                     }
                 }
             }
         }
+    }
+
+    /// What they end with.
+    pub fn ends(&self) -> Ends<'_> {
+        Ends { y: &self.value, grade: &self.grade, count: &self.count }
     }
 }
 
@@ -73,6 +99,6 @@ pub fn rehearse(header: &Header, table: &[u8], log: &mut [u8], outcomes: &mut [u
         speak(&line, header.marks, &stations.ballots(part), from_table, said);
         stations.hear(part, said);
     }
-    write_outcomes(&line, header.marks, &stations.value, &stations.grade, outcomes);
+    write_outcomes(&line, header.marks, &stations.ends(), outcomes);
     Ok(())
 }

@@ -5,6 +5,7 @@
 use std::fmt::Write;
 
 use crate::line::{Cause, Header, LARGEST_TABLE, STATIONS};
+use crate::outcome::OUTCOME;
 use crate::rehearsal::rehearse;
 use crate::sheet;
 
@@ -30,13 +31,13 @@ struct Buffers {
     /// Lent where the largest table is too short.
     longer: Vec<u8>,
     log: Vec<u8>,
-    outcomes: [u8; 3 * STATIONS],
+    outcomes: [u8; OUTCOME * STATIONS],
 }
 
 impl Buffers {
     fn new() -> Buffers {
         let (table, longer) = (vec![255; LARGEST_TABLE], vec![0; 65_536]);
-        Buffers { table, longer, log: vec![255; LARGEST_TABLE], outcomes: [255; 3 * STATIONS] }
+        Buffers { table, longer, log: vec![255; LARGEST_TABLE], outcomes: [255; OUTCOME * STATIONS] }
     }
 
     /// Reads a run's sheet and, if it is accepted, rehearses it. What is printed after the run's number.
@@ -47,7 +48,7 @@ impl Buffers {
         let mut line = format!("{}; table {}", words(&reading), checksum(table));
         if let Ok(header) = reading {
             let log = &mut self.log[..stored.lent];
-            let outcomes = &mut self.outcomes[..3 * usize::from(header.n)];
+            let outcomes = &mut self.outcomes[..OUTCOME * usize::from(header.n)];
             rehearse(&header, table, log, outcomes).expect("an accepted sheet's run");
             let sums = [checksum(log), checksum(outcomes)];
             write!(line, "; accepted:{}; sums{}", numbers(outcomes), numbers(&sums)).expect("a string");

@@ -1,9 +1,14 @@
-//! One station as it runs in a bonder. Any nine bytes may be handed in as its state; they are judged.
+//! One station as it runs in a bonder. Any bytes may be handed in as its state; they are judged.
 
-use crate::exchange::{flag, Tally};
-use crate::line::{read_king, read_sender, require, Cause, Line, Part, BLANK, SILENCE};
+use crate::ballot::{king_value, read_king, read_sender, sender_value};
+use crate::exchange::Tally;
+use crate::line::{require, Cause, Line, Part, BLANK, SILENCE};
+use crate::outcome::Outcome;
 
-/// A station's state, nine bytes.
+/// The bytes of a station.
+pub const STATION: usize = 10;
+
+/// A station: its five numbers and its state.
 #[derive(Clone, Copy, PartialEq, Eq, Debug)]
 pub struct Station {
     pub n: u8,
@@ -17,32 +22,34 @@ pub struct Station {
     pub value: u8,
     pub z: u8,
     pub grade: u8,
+    /// The rounds in which at least one ballot that it expected was garbled.
+    pub count: u8,
 }
 
 /// What a station answers when it is asked for its result.
 #[derive(Clone, Copy, PartialEq, Eq, Debug)]
 pub enum Answer {
     Running { round: u8 },
-    Done { value: u8, grade: u8, flag: u8 },
+    Done(Outcome),
 }
 
 impl Station {
-    /// Opens a station. Causes 2 to 5. Its z is blank and its grade 0 until they are set.
+    /// Opens a station. Causes 2 to 5. Its z is blank and its grade 0 until they are set; its count is 0.
     pub fn open((n, t, upper): (u8, u8, u8), sender: u8, own: u8, value: u8) -> Result<Station, Cause> {
         let line = Line::new(n, t, upper)?;
         require(line.has(sender) && line.has(own), Cause::StationNumber)?;
         require(value <= 1, Cause::Value)?;
-        Ok(Station { n, t, upper, sender, own, round: 1, value, z: BLANK, grade: 0 })
+        Ok(Station { n, t, upper, sender, own, round: 1, value, z: BLANK, grade: 0, count: 0 })
     }
 
-    pub fn from_bytes(bytes: [u8; 9]) -> Station {
-        let [n, t, upper, sender, own, round, value, z, grade] = bytes;
-        Station { n, t, upper, sender, own, round, value, z, grade }
+    pub fn from_bytes(bytes: [u8; STATION]) -> Station {
+        let [n, t, upper, sender, own, round, value, z, grade, count] = bytes;
+        Station { n, t, upper, sender, own, round, value, z, grade, count }
     }
 
-    pub fn to_bytes(self) -> [u8; 9] {
-        let Station { n, t, upper, sender, own, round, value, z, grade } = self;
-        [n, t, upper, sender, own, round, value, z, grade]
+    pub fn to_bytes(self) -> [u8; STATION] {
+        let Station { n, t, upper, sender, own, round, value, z, grade, count } = self;
+        [n, t, upper, sender, own, round, value, z, grade, count]
     }
 
     /// Judges the state: causes 2, 3, 4 and 7.
@@ -51,6 +58,7 @@ impl Station {
         require(line.has(self.sender) && line.has(self.own), Cause::StationNumber)?;
         let in_range = (1..=line.rounds() + 1).contains(&self.round);
         require(in_range && self.value <= 1 && self.z <= 2 && self.grade <= 2, Cause::StationState)?;
+        require(self.count < self.round, Cause::StationState)?;
         Ok(line)
     }
 
@@ -78,24 +86,40 @@ impl Station {
         let line = self.judge_running()?;
         require(row.len() == line.n(), Cause::Length)?;
         let mut next = Station { round: self.round + 1, ..*self };
-        match line.part(self.round) {
-            Part::Sender => next.value = read_sender(row[usize::from(self.sender) - 1]),
-            Part::First => next.z = Tally::of(row).z(&line, self.value),
-            Part::Second => (next.value, next.grade) = Tally::of(row).graded(&line),
-            Part::King(king) if self.grade == 0 => {
-                next.value = read_king(row[usize::from(king) - 1], self.value);
+        let garbled = match line.part(self.round) {
+            Part::Sender => {
+                let heard = read_sender(row[usize::from(self.sender) - 1]);
+                next.value = sender_value(heard);
+                heard.is_garbled()
             }
-            Part::King(_) => {}
-        }
+            Part::First => {
+                let tally = Tally::of_first(row);
+                next.z = tally.z(&line, self.value);
+                tally.garbled > 0
+            }
+            Part::Second => {
+                let tally = Tally::of_second(row);
+                (next.value, next.grade) = tally.graded(&line);
+                tally.garbled > 0
+            }
+            Part::King(king) => {
+                let heard = read_king(row[usize::from(king) - 1]);
+                if self.grade == 0 {
+                    next.value = king_value(heard, self.value);
+                }
+                heard.is_garbled()
+            }
+        };
+        next.count += u8::from(garbled);
         Ok(next)
     }
 
-    /// Running with its round, or done with value, grade and flag. Causes 2, 3, 4 and 7.
+    /// Running with its round, or done with its outcome. Causes 2, 3, 4 and 7.
     pub fn result(&self) -> Result<Answer, Cause> {
         let line = self.judge()?;
         if self.round <= line.rounds() {
             return Ok(Answer::Running { round: self.round });
         }
-        Ok(Answer::Done { value: self.value, grade: self.grade, flag: flag(self.grade) })
+        Ok(Answer::Done(Outcome::new(self.value, self.grade, self.count)))
     }
 }

@@ -16,11 +16,12 @@ fn thresholds(n: u8, t: u8, upper: u8) -> u8 {
     Line::new(n, t, upper).map_or_else(|cause| cause.number(), |_| 0)
 }
 
+/// As Ticket 4 has it.
 #[test]
 fn case_a() {
     let sheet = [4, 1, 1, 1, 1, 0, 0, 0, 8, 0, 0, 0];
     assert_eq!(rewritten(&sheet), sheet);
-    assert_eq!(listing(&sheet), "agree 4 1 1 1 9\n1 1 2 0\n2 1 2 0\n3 1 2 0\n4 - - -\n");
+    assert_eq!(listing(&sheet), "agree 4 1 1 1 9\n1 1 2 0 0\n2 1 2 0 0\n3 1 2 0 0\n4 - - - -\n");
 }
 
 /// As Ticket 2 has it.
@@ -28,7 +29,7 @@ fn case_a() {
 fn case_b() {
     let told = [record(1, 4, 1, 1), record(1, 4, 2, 0), record(1, 4, 3, 0)];
     let sheet = write(&header(4, 0, 1, 4, 0, 0b1000), &told);
-    assert_eq!(listing(&sheet), "agree 4 0 1 4 6\n1 1 1 1\n2 1 1 1\n3 1 1 1\n4 - - -\n");
+    assert_eq!(listing(&sheet), "agree 4 0 1 4 6\n1 1 1 1 0\n2 1 1 1 0\n3 1 1 1 0\n4 - - - -\n");
     assert_eq!(rewritten(&sheet), sheet);
     // in another order, with silence told, and with a record that isn't chained
     let told = [told[2], record(6, 4, 4, 255), told[0], told[1]];
@@ -42,14 +43,14 @@ fn case_c() {
     let rounds = [1, 2, 3, 5, 6];
     let told: Vec<Record> = rounds.iter().flat_map(|&r| [record(r, 1, 2, 0), record(r, 1, 3, 1)]).collect();
     let sheet = write(&header(3, 0, 1, 1, 0, 0b001), &told);
-    assert_eq!(listing(&sheet), "agree 3 0 1 1 6\n1 - - -\n2 0 1 1\n3 1 1 1\n");
+    assert_eq!(listing(&sheet), "agree 3 0 1 1 6\n1 - - - -\n2 0 1 1 0\n3 1 1 1 0\n");
     assert_eq!(rewritten(&sheet), sheet);
 }
 
 #[test]
 fn case_d() {
-    assert_eq!(listing(&write(&header(1, 0, 0, 1, 0, 0), &[])), "agree 1 0 0 1 6\n1 0 2 0\n");
-    assert_eq!(listing(&write(&header(1, 0, 0, 1, 0, 1), &[])), "agree 1 0 0 1 6\n1 - - -\n");
+    assert_eq!(listing(&write(&header(1, 0, 0, 1, 0, 0), &[])), "agree 1 0 0 1 6\n1 0 2 0 0\n");
+    assert_eq!(listing(&write(&header(1, 0, 0, 1, 0, 1), &[])), "agree 1 0 0 1 6\n1 - - - -\n");
 }
 
 #[test]
@@ -57,7 +58,7 @@ fn case_e() {
     assert_eq!((thresholds(32, 10, 10), thresholds(32, 11, 11)), (0, 3));
     assert_eq!((thresholds(32, 0, 15), thresholds(32, 0, 16)), (0, 3));
     let largest = listing(&write(&header(32, 10, 10, 1, 1, 0), &[]));
-    let stations: String = (1..=32).map(|i| format!("{i} 1 2 0\n")).collect();
+    let stations: String = (1..=32).map(|i| format!("{i} 1 2 0 0\n")).collect();
     assert_eq!(largest, format!("agree 32 10 10 1 36\n{stations}"));
     assert_eq!(listing(&write(&header(32, 11, 11, 1, 1, 0), &[])), "refused 3\n");
 }

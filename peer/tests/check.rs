@@ -7,6 +7,7 @@ use peer::by_round::check_by_round;
 use peer::check::check;
 use peer::line::{Cause, Header, Line, Marks};
 use peer::logs::{draw, Logged};
+use peer::outcome::{place, OUTCOME};
 use peer::rehearsal::rehearse;
 
 /// The set, plainly and round by round.
@@ -39,7 +40,7 @@ fn is_run(logged: &Logged, marks: u32) -> bool {
         let (mut log, mut outcomes) = (vec![9; line.table_len()], vec![9; line.outcomes_len()]);
         let header = header(n, t, upper, logged.sender, value, marks);
         rehearse(&header, &logged.log, &mut log, &mut outcomes).unwrap();
-        let good = |place: &usize| !header.marks.bad((place / 3 + 1) as u8);
+        let good = |place: &usize| !header.marks.bad((place / OUTCOME + 1) as u8);
         log == logged.log && (0..outcomes.len()).filter(good).all(|i| outcomes[i] == logged.outcomes[i])
     })
 }
@@ -60,33 +61,33 @@ fn run(lot: &mut Lot, most: u8) -> (Logged, Header, Line) {
 /// Each cause stands alone, then all of them together: as one after the other is mended, the next is given.
 #[test]
 fn one_cause_after_the_other() {
-    let (log, outcomes) = (vec![0; 6 * 16 + 1], vec![0; 13]);
+    let (log, outcomes) = (vec![0; 6 * 16 + 1], vec![0; 17]);
     let number = |(n, t, upper): (u8, u8, u8), sender: u8, log_len: usize, outcomes_len: usize| {
         let answer = check((n, t, upper), sender, &log[..log_len], &outcomes[..outcomes_len]);
         answer.map_or_else(Cause::number, |_| 0)
     };
-    assert_eq!(number((4, 0, 1), 4, 96, 12), 0);
+    assert_eq!(number((4, 0, 1), 4, 96, 16), 0);
     for (n, t, upper, sender, log_len, outcomes_len, cause) in [
-        (0, 0, 0, 1, 96, 12, 2),
-        (33, 0, 1, 4, 96, 12, 2),
-        (4, 2, 1, 4, 96, 12, 3),
-        (4, 0, 2, 4, 96, 12, 3),
-        (4, 255, 255, 4, 96, 12, 3),
-        (4, 0, 1, 0, 96, 12, 4),
-        (4, 0, 1, 5, 96, 12, 4),
-        (4, 0, 1, 4, 95, 12, 8),
-        (4, 0, 1, 4, 97, 12, 8),
-        (4, 0, 1, 4, 0, 12, 8),
-        (4, 0, 1, 4, 96, 11, 8),
-        (4, 0, 1, 4, 96, 13, 8),
+        (0, 0, 0, 1, 96, 16, 2),
+        (33, 0, 1, 4, 96, 16, 2),
+        (4, 2, 1, 4, 96, 16, 3),
+        (4, 0, 2, 4, 96, 16, 3),
+        (4, 255, 255, 4, 96, 16, 3),
+        (4, 0, 1, 0, 96, 16, 4),
+        (4, 0, 1, 5, 96, 16, 4),
+        (4, 0, 1, 4, 95, 16, 8),
+        (4, 0, 1, 4, 97, 16, 8),
+        (4, 0, 1, 4, 0, 16, 8),
+        (4, 0, 1, 4, 96, 15, 8),
+        (4, 0, 1, 4, 96, 17, 8),
         (4, 0, 1, 4, 96, 0, 8),
         // mended one after the other
-        (0, 1, 0, 9, 97, 13, 2),
-        (4, 1, 0, 9, 97, 13, 3),
-        (4, 0, 1, 9, 97, 13, 4),
-        (4, 0, 1, 1, 97, 13, 8),
-        (4, 0, 1, 1, 96, 13, 8),
-        (4, 0, 1, 1, 96, 12, 0),
+        (0, 1, 0, 9, 97, 17, 2),
+        (4, 1, 0, 9, 97, 17, 3),
+        (4, 0, 1, 9, 97, 17, 4),
+        (4, 0, 1, 1, 97, 17, 8),
+        (4, 0, 1, 1, 96, 17, 8),
+        (4, 0, 1, 1, 96, 16, 0),
     ] {
         assert_eq!(number((n, t, upper), sender, log_len, outcomes_len), cause);
     }
@@ -160,13 +161,13 @@ fn every_log_of_one_station() {
         (0..len).map(|place| [0, 1, 2, 255][(number >> (2 * place) & 3) as usize]).collect()
     };
     let mut kept = Vec::new();
-    for (log, outcome) in (0..1 << 12).flat_map(|log| (0..1 << 6).map(move |outcome| (log, outcome))) {
-        let (log, outcomes) = (bytes(log, 6), bytes(outcome, 3));
+    for (log, outcome) in (0..1 << 12).flat_map(|log| (0..1 << 8).map(move |outcome| (log, outcome))) {
+        let (log, outcomes) = (bytes(log, 6), bytes(outcome, 4));
         if check((1, 0, 0), 1, &log, &outcomes) == Ok(Marks(0)) {
             kept.push((log, outcomes));
         }
     }
-    assert_eq!(kept, [(vec![0; 6], vec![0, 2, 0]), (vec![1; 6], vec![1, 2, 0])]);
+    assert_eq!(kept, [(vec![0; 6], vec![0, 2, 0, 0]), (vec![1; 6], vec![1, 2, 0, 0])]);
 }
 
 /// A run without bad stations, of this value, the sender's row of round 1 replaced.
@@ -176,13 +177,19 @@ fn told(sender: u8, value: u8, row: [u8; 4]) -> Logged {
     logged
 }
 
-/// A sender that tells nothing, or another byte than 0 and 1, keeps the rules with no value. The others read 0.
+/// A sender that tells nothing, or another byte than 0 and 1, keeps the rules with no value. The others read 0, and count the
+/// round where the byte is garbled.
 #[test]
 fn a_sender_without_a_value() {
     for sender in 1..=4 {
         assert_eq!([0, 1].map(|value| broke(&told(sender, value, [value; 4]))), [0, 0]);
         for row in [[255; 4], [2; 4], [77; 4], [0, 0, 255, 0], [0, 2, 0, 0], [255, 2, 77, 0]] {
-            assert_eq!(broke(&told(sender, 0, row)), bit(sender), "sender {sender}, {row:?}");
+            let mut logged = told(sender, 0, row);
+            let garbled = (1..).zip(row).filter(|(_, byte)| ![0, 255].contains(byte)).map(|(own, _)| own);
+            let uncounted = Marks::of(garbled.clone()).0;
+            assert_eq!(broke(&logged), bit(sender) | uncounted, "sender {sender}, {row:?}");
+            garbled.for_each(|own| logged.outcomes[place(own).end - 1] = 1);
+            assert_eq!(broke(&logged), bit(sender), "sender {sender}, {row:?}");
         }
     }
 }
@@ -240,8 +247,7 @@ fn one_byte_of_an_outcome() {
     for _ in 0..20 {
         let (mut logged, header, line) = run(&mut lot, 5);
         for own in line.stations().filter(|&own| !header.marks.bad(own)) {
-            for (at, other) in (0..3).flat_map(|at| (1..=255).map(move |other| (at, other))) {
-                let place = 3 * (usize::from(own) - 1) + at;
+            for (place, other) in place(own).flat_map(|place| (1..=255).map(move |other| (place, other))) {
                 logged.outcomes[place] ^= other;
                 assert_eq!(broke(&logged), header.marks.0 | bit(own), "{logged:?}");
                 logged.outcomes[place] ^= other;

@@ -7,7 +7,7 @@ use peer::line::Cause;
 
 const CASE_A: [u8; 12] = [4, 1, 1, 1, 1, 0, 0, 0, 8, 0, 0, 0];
 const CASE_A_TEXT: &str = "n 4\nt 1\nT 1\nsender 1\nvalue 1\nbad 4\n";
-const CASE_A_LISTING: &str = "agree 4 1 1 1 9\n1 1 2 0\n2 1 2 0\n3 1 2 0\n4 - - -\n";
+const CASE_A_LISTING: &str = "agree 4 1 1 1 9\n1 1 2 0 0\n2 1 2 0 0\n3 1 2 0 0\n4 - - - -\n";
 
 /// Exit status, standard output and standard error of a command that is fed these bytes.
 fn peer(words: &[&str], fed: &[u8]) -> (i32, Vec<u8>, String) {
@@ -86,7 +86,7 @@ fn stored_runs() {
     let printed = String::from_utf8(printed).unwrap();
     let lines: Vec<&str> = printed.lines().collect();
     assert_eq!(lines.len(), 2);
-    assert!(lines[0].starts_with("run 1: 4 1 1 1 1 8; table 2653487104; accepted: 1 2 0 1 2 0 "));
+    assert!(lines[0].starts_with("run 1: 4 1 1 1 1 8; table 2653487104; accepted: 1 2 0 0 1 2 0 0 "));
     assert!(lines[1].starts_with("run 2: refused 8; table ") && !lines[1].contains("accepted"));
 }
 
@@ -104,7 +104,7 @@ fn log_and_outcomes() {
     assert_eq!((status, log.len(), said.as_str()), (0, 144, ""));
     // round 1 is the sender's, in round 2 all good stations speak
     assert_eq!(log[..32], [[1; 4], [255; 4], [255; 4], [255; 4], [1; 4], [1; 4], [1; 4], [255; 4]].concat());
-    let outcomes = vec![1, 2, 0, 1, 2, 0, 1, 2, 0, 255, 255, 255];
+    let outcomes = [[1, 2, 0, 0], [1, 2, 0, 0], [1, 2, 0, 0], [255; 4]].concat();
     assert_eq!(peer(&["outcomes", "-"], &CASE_A), (0, outcomes, String::new()));
 }
 
@@ -126,7 +126,10 @@ fn audit() {
     assert_eq!(audit(&log, &outcomes, case), printed("broke 2 4\n"));
     (log[16 + 7], outcomes[2]) = (1, 1);
     assert_eq!(audit(&log, &outcomes, case), printed("broke 1 4\n"));
-    assert_eq!(audit(&[1; 6], &[1, 2, 0], ["1", "0", "0", "1"]), printed("broke\n"));
+    // station 2 counts a garbled round that it didn't have
+    (outcomes[2], outcomes[7]) = (0, 1);
+    assert_eq!(audit(&log, &outcomes, case), printed("broke 2 4\n"));
+    assert_eq!(audit(&[1; 6], &[1, 2, 0, 0], ["1", "0", "0", "1"]), printed("broke\n"));
 
     let long = vec![0; 100_000];
     for (log, outcomes, numbers, cause) in [

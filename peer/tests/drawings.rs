@@ -14,6 +14,7 @@ use common::{header, Lot};
 use peer::draw::draw;
 use peer::line::{Header, Part};
 use peer::listing::{run, Run};
+use peer::outcome::outcomes;
 use peer::rehearsal::rehearse;
 use peer::sheet::{write, Record};
 use shown::{apart, elements, shown, Area, Cells, Shown, Text};
@@ -95,15 +96,20 @@ fn texts_of_the_largest_runs() {
     }
 }
 
-/// How a ballot byte is shown: its colour and symbol. A garbled one may have its number instead.
-fn look(byte: u8) -> (&'static str, String) {
-    match byte {
-        0 => ("#56b4e9", "0".to_string()),
-        1 => ("#e69f00", "1".to_string()),
-        2 => ("#f0e442", "\u{2013}".to_string()),
-        255 => ("#ececec", "\u{b7}".to_string()),
+/// How a ballot byte is shown in a round of this kind: its colour and symbol. A garbled one may have its number instead.
+fn look(part: Part, byte: u8) -> (&'static str, String) {
+    match (byte, part) {
+        (0, _) => ("#56b4e9", "0".to_string()),
+        (1, _) => ("#e69f00", "1".to_string()),
+        (2, Part::Second) => ("#f0e442", "\u{2013}".to_string()),
+        (255, _) => ("#ececec", "\u{b7}".to_string()),
         _ => ("#cc79a7", "\u{d7}".to_string()),
     }
+}
+
+/// How a value or z is shown that a station holds.
+fn held_look(byte: u8) -> (&'static str, String) {
+    look(Part::Second, byte)
 }
 
 /// The cells of the grids, read back from their colours and from their symbols, are the log's ballots.
@@ -120,7 +126,8 @@ fn cells_show_the_log() {
             for from in run.line.stations() {
                 for to in run.line.stations() {
                     let byte = run.log[run.line.place(round, from, to)];
-                    let ((colour, symbol), (shown_colour, shown_symbol)) = (look(byte), cells.at(from, to));
+                    let (colour, symbol) = look(run.line.part(round), byte);
+                    let (shown_colour, shown_symbol) = cells.at(from, to);
                     assert_eq!(shown_colour, colour, "round {round} from {from} to {to}: {byte}");
                     let number = cells.side >= 20.0 && symbol == "\u{d7}";
                     let symbol = if number { byte.to_string() } else { symbol };
@@ -142,20 +149,20 @@ fn strips_show_what_stations_hold() {
         let shown = shown(&svg);
         let last = run.line.rounds();
         for (round, cells) in (1..).zip(&shown.cells) {
-            for (station, outcome) in run.line.stations().zip(run.outcomes.chunks_exact(3)) {
+            for (station, outcome) in run.line.stations().zip(outcomes(&run.outcomes)) {
                 let [held, grade] = [0, 1].map(|strip| cells.strip(strip, station));
                 let sent = |round| run.log[run.line.place(round, station, 1)];
                 match run.line.part(round) {
                     _ if run.header.marks.bad(station) => assert_eq!([held, grade], [None, None]),
                     Part::Sender | Part::First | Part::King(_) => {
-                        assert_eq!([held, grade], [Some(look(sent(round + 1))), None]);
+                        assert_eq!([held, grade], [Some(held_look(sent(round + 1))), None]);
                     }
                     Part::Second if round == last => {
-                        assert_eq!(held, Some(look(outcome[0])));
-                        assert_eq!(grade.unwrap().1, outcome[1].to_string());
+                        assert_eq!(held, Some(held_look(outcome.value)));
+                        assert_eq!(grade.unwrap().1, outcome.grade.to_string());
                     }
                     Part::Second if run.line.part(round + 1) == Part::King(station) => {
-                        assert_eq!(held, Some(look(sent(round + 1))));
+                        assert_eq!(held, Some(held_look(sent(round + 1))));
                     }
                     Part::Second => assert!(held.is_some() && grade.is_some()),
                 }
@@ -172,7 +179,7 @@ fn meanings_stand_above_the_rounds() {
         let shown = shown(&svg);
         let rounds = shown.cells.iter().map(|cells| cells.area().1).fold(PAGE, f64::min);
         let quorums = [format!("n\u{2212}T = {}", n - upper), format!("n\u{2212}t = {}", n - t)];
-        let letters = ["x", "z", "y", "grade", "king", "phase", "flag", "ballot"];
+        let letters = ["x", "z", "y", "grade", "king", "phase", "flag", "ballot", "garbled"];
         for term in quorums.iter().map(String::as_str).chain(letters) {
             let terms = shown.texts.iter().filter(|text| text.words == term && text.area.0 == 24.0);
             assert!(terms.filter(|text| text.area.3 < rounds).count() >= 1, "{term}");
@@ -188,7 +195,7 @@ fn meanings_stand_above_the_rounds() {
     }
 }
 
-/// The table above the rounds has every station's three bytes, and says who is bad.
+/// The table above the rounds has every station's outcome, and says who is bad.
 #[test]
 fn the_table_shows_the_outcomes() {
     let mut lot = Lot(43);
@@ -197,26 +204,28 @@ fn the_table_shows_the_outcomes() {
         let run = run_by_lot(&mut lot, by_lot);
         let svg = draw(&run);
         let shown = shown(&svg);
-        let [stations, value, grade, flag] = ["station", "value decided", "grade (how sure)", "flag"]
-            .map(|label| shown.texts.iter().find(|text| text.words == label && text.area.0 < 30.0).unwrap());
+        let beside = |label: &str| {
+            shown.texts.iter().find(|text| text.words == label && text.area.0 < 30.0).expect("a label")
+        };
+        let stations = beside("station");
+        let labels = ["value decided", "grade (how sure)", "flag", "rounds garbled"].map(beside);
         let row = |label: &Text| -> Vec<&Text> {
             let beside = |text: &&Text| (text.baseline - label.baseline).abs() < 6.0 && text.area.0 > 150.0;
             shown.texts.iter().filter(beside).collect()
         };
         let numbers = row(stations);
         assert_eq!(numbers.len(), run.line.n());
-        for ((station, number), outcome) in run.line.stations().zip(numbers).zip(run.outcomes.chunks_exact(3))
-        {
+        for ((station, number), outcome) in run.line.stations().zip(numbers).zip(outcomes(&run.outcomes)) {
             assert_eq!(number.words, station.to_string());
             let below = |label| {
                 let words = |text: &&Text| (text.middle() - number.middle()).abs() < 10.0;
                 row(label).into_iter().find(words).map(|text| text.words)
             };
             if run.header.marks.bad(station) {
-                assert_eq!([value, grade, flag].map(below), [None, Some("bad"), None]);
+                assert_eq!(labels.map(below), [None, Some("bad"), None, None]);
             } else {
-                let bytes = [0, 1, 2].map(|place| outcome[place].to_string());
-                assert_eq!([value, grade, flag].map(below), [0, 1, 2].map(|i| Some(bytes[i].as_str())));
+                let bytes = outcome.to_bytes().map(|byte| byte.to_string());
+                assert_eq!(labels.map(below), bytes.each_ref().map(|byte| Some(byte.as_str())));
             }
         }
     }
@@ -276,6 +285,41 @@ fn bytes_that_differ_are_marked() {
         }
     }
     assert!(seen.iter().all(|count| *count > 50), "{seen:?}");
+}
+
+/// Whether a ballot that a station expects in a round came garbled.
+fn hears_garbled(run: &Run, round: u8, to: u8) -> bool {
+    let part = run.line.part(round);
+    let garbled = |from: u8| look(part, run.log[run.line.place(round, from, to)]).0 == "#cc79a7";
+    run.line.stations().any(|from| should_speak(run, round, from) && garbled(from))
+}
+
+/// A bar stands below a grid exactly at the good stations that count the round.
+#[test]
+fn garbled_rounds_are_marked() {
+    let mut lot = Lot(47);
+    let mut seen = [0; 2];
+    for n in [1, 2, 3, 4, 9, 16, 17, 32] {
+        for _ in 0..3 {
+            let by_lot = header_by_lot(&mut lot, n);
+            let run = run_by_lot(&mut lot, by_lot);
+            let svg = draw(&run);
+            let shown = shown(&svg);
+            let mut bars = 1;
+            for (round, cells) in (1..).zip(&shown.cells) {
+                for to in run.line.stations() {
+                    let below = shown.bars.iter().filter(|bar| cells.right_below(to, bar)).count();
+                    let counts = !run.header.marks.bad(to) && hears_garbled(&run, round, to);
+                    assert_eq!(below, usize::from(counts), "round {round} to {to}");
+                    bars += below;
+                    seen[below] += 1;
+                }
+            }
+            assert_eq!(shown.bars.len(), bars, "these and the legend's");
+            assert!(shown.bars.iter().all(on_one_page));
+        }
+    }
+    assert!(seen.iter().all(|&many| many > 100), "{seen:?}");
 }
 
 /// The header's value leaves no trace where the sender is bad, and is told where it is good.
@@ -364,16 +408,17 @@ fn the_sentences_are_true() {
         let truth = Truth::of(&run);
         let kinds = truth.check_outcome(&shown.joined(20.0, "#000000"));
         let below = shown.joined(14.0, "#000000");
-        let (sender, promise) = below.split_once(". ").unwrap();
+        let [sender, promise, garbled] = below.split(". ").collect::<Vec<_>>().try_into().unwrap();
         assert_eq!(sender.contains("is bad"), by_lot.marks.bad(by_lot.sender));
         let promised = truth.check_promise(promise);
         *claims.entry(format!("{} {}", kinds.0, kinds.1)).or_default() += 1;
         *claims.entry(promised.to_string()).or_default() += 1;
+        *claims.entry(truth.check_garbled(garbled).to_string()).or_default() += 1;
     }
     for kind in ["differ", "all keep", "all change over"] {
         for flags in ["no flag", "some flags", "every flag"] {
             assert!(claims.contains_key(&format!("{kind} {flags}")), "{kind} {flags} of {claims:?}");
         }
     }
-    assert_eq!(claims.len(), 9 + 1 + 5, "{claims:?}");
+    assert_eq!(claims.len(), 9 + 1 + 5 + 3, "{claims:?}");
 }

@@ -7,6 +7,7 @@ use peer::by_round::check_by_round;
 use peer::check::check;
 use peer::exchange::alone;
 use peer::line::{Cause, Header, Line, Marks, LARGEST_TABLE};
+use peer::outcome::OUTCOME;
 use peer::rehearsal::rehearse;
 use peer::sheet;
 use peer::station::{Answer, Station};
@@ -39,7 +40,7 @@ fn lengths(n: u8, t: u8, rounds: usize) -> (usize, usize) {
     if no_stations(n) || t > 32 {
         return (7, 3);
     }
-    (rounds * usize::from(n) * usize::from(n), 3 * usize::from(n))
+    (rounds * usize::from(n) * usize::from(n), OUTCOME * usize::from(n))
 }
 
 #[test]
@@ -51,17 +52,17 @@ fn rehearsals() {
         let sender = lot.pick(&[1, 1, n, n, 0, n.wrapping_add(1)]);
         let value = lot.pick(&[0, 1, 0, 1, 2, 255]);
         let marks = lot.edge_marks(n);
-        let (exact, three) = lengths(n, t, 3 * usize::from(t) + 6);
+        let (exact, ends) = lengths(n, t, 3 * usize::from(t) + 6);
         let table = vec![1; lot.near(exact)];
         let mut log = vec![99; lot.near(exact)];
-        let mut outcomes = vec![99; lot.near(three)];
+        let mut outcomes = vec![99; lot.near(ends)];
         let expected = lowest(&[
             (2, no_stations(n)),
             (3, no_thresholds(n, t, upper)),
             (4, sender == 0 || sender > n),
             (5, value > 1),
             (6, mark_beyond(n, marks)),
-            (8, table.len() != exact || log.len() != exact || outcomes.len() != three),
+            (8, table.len() != exact || log.len() != exact || outcomes.len() != ends),
         ]);
         let header = Header { n, t, upper, sender, value, marks: Marks(marks) };
         assert_eq!(code(rehearse(&header, &table, &mut log, &mut outcomes)), expected, "{header:?}");
@@ -128,13 +129,13 @@ fn checking() {
     for _ in 0..20_000 {
         let (n, t, upper) = lot.edge_numbers();
         let sender = lot.pick(&[1, 1, n, n, 0, n.wrapping_add(1)]);
-        let (exact, three) = lengths(n, t, 3 * usize::from(t) + 6);
-        let (log, outcomes) = (vec![1; lot.near(exact)], vec![1; lot.near(three)]);
+        let (exact, ends) = lengths(n, t, 3 * usize::from(t) + 6);
+        let (log, outcomes) = (vec![1; lot.near(exact)], vec![1; lot.near(ends)]);
         let expected = lowest(&[
             (2, no_stations(n)),
             (3, no_thresholds(n, t, upper)),
             (4, sender == 0 || sender > n),
-            (8, log.len() != exact || outcomes.len() != three),
+            (8, log.len() != exact || outcomes.len() != ends),
         ]);
         for check in [check, check_by_round] {
             assert_eq!(
@@ -155,14 +156,14 @@ fn exchanges() {
     for _ in 0..30_000 {
         let (n, t, upper) = lot.edge_numbers();
         let marks = lot.edge_marks(n);
-        let (exact, three) = lengths(n, t, 2);
+        let (exact, ends) = lengths(n, t, 2);
         let mut inputs = vec![1; lot.near(usize::from(n))];
         if lot.one_in(2) && !inputs.is_empty() {
             let at = lot.below(inputs.len() as u64) as usize;
             inputs[at] = lot.pick(&[0, 2, 255]);
         }
         let table = vec![1; lot.near(exact)];
-        let mut outcomes = vec![99; lot.near(three)];
+        let mut outcomes = vec![99; lot.near(ends)];
         let input_off =
             inputs.iter().enumerate().any(|(i, &input)| input > 1 && (i > 31 || marks >> i & 1 == 0));
         let inputs_off_length = inputs.len() != usize::from(n);
@@ -171,7 +172,7 @@ fn exchanges() {
             (3, no_thresholds(n, t, upper)),
             (5, !inputs_off_length && input_off),
             (6, mark_beyond(n, marks)),
-            (8, inputs_off_length || table.len() != exact || outcomes.len() != three),
+            (8, inputs_off_length || table.len() != exact || outcomes.len() != ends),
         ]);
         let answer = alone((n, t, upper), Marks(marks), &inputs, &table, &mut outcomes);
         assert_eq!(code(answer), expected, "{n} {t} {upper} {marks} {inputs:?}");
@@ -198,7 +199,7 @@ fn opening() {
         ]);
         let opened = Station::open((n, t, upper), sender, own, value);
         if let Ok(station) = opened {
-            assert_eq!(station.to_bytes(), [n, t, upper, sender, own, 1, value, 2, 0]);
+            assert_eq!(station.to_bytes(), [n, t, upper, sender, own, 1, value, 2, 0, 0]);
         }
         assert_eq!(code(opened), expected);
         seen[usize::from(expected)] += 1;
@@ -210,6 +211,8 @@ fn opening() {
 fn station_states() {
     let mut lot = Lot(4);
     let mut seen = [0; 14];
+    // how often a count isn't below its round, with another cause and alone
+    let mut by_count = [0; 2];
     for _ in 0..60_000 {
         let (n, t, upper) = lot.edge_numbers();
         let sender = lot.pick(&[1, 1, 1, n, n, 0, n.wrapping_add(1)]);
@@ -218,7 +221,12 @@ fn station_states() {
         let round = lot.pick(&[0, 1, 2, 3, 4, last, last.wrapping_add(1), last.wrapping_add(2)]);
         let (value, z) = (lot.pick(&[0, 1, 1, 2]), lot.pick(&[0, 1, 2, 2, 3]));
         let grade = lot.pick(&[0, 1, 2, 2, 3]);
-        let station = Station::from_bytes([n, t, upper, sender, own, round, value, z, grade]);
+        let count = match lot.below(6) {
+            0 => lot.pick(&[round, round.wrapping_add(1), 255]),
+            1 => round.wrapping_sub(1),
+            _ => lot.below(u64::from(round.max(1))) as u8,
+        };
+        let station = Station::from_bytes([n, t, upper, sender, own, round, value, z, grade, count]);
         let done = round == last.wrapping_add(1);
         let row = vec![1; lot.near(usize::from(n))];
         let mut causes = vec![
@@ -227,6 +235,8 @@ fn station_states() {
             (4, sender == 0 || sender > n || own == 0 || own > n),
             (7, round == 0 || round > last.wrapping_add(1) || value > 1 || z > 2 || grade > 2),
         ];
+        by_count[usize::from(lowest(&causes) == 0)] += u32::from(count >= round);
+        causes.push((7, count >= round));
         let whole = lowest(&causes);
         assert_eq!(code(station.result()), whole, "{station:?}");
         if whole == 0 {
@@ -240,6 +250,7 @@ fn station_states() {
         seen[usize::from(expected)] += 1;
     }
     assert!([0, 2, 3, 4, 7, 8].iter().all(|&cause: &usize| seen[cause] > 20), "{seen:?}");
+    assert!(by_count.iter().all(|&many| many > 20), "{by_count:?}");
 }
 
 #[test]

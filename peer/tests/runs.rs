@@ -5,6 +5,7 @@ mod common;
 use common::Lot;
 use peer::exchange::{alone, Tally};
 use peer::line::{Header, Line, Part};
+use peer::outcome::{outcome, outcomes, place, Outcome, BAD};
 use peer::rehearsal::rehearse;
 use peer::station::{Answer, Station};
 
@@ -19,22 +20,21 @@ fn good(header: &Header) -> Vec<u8> {
     (1..=header.n).filter(|&i| !header.marks.bad(i)).collect()
 }
 
-/// Value, grade and flag of the good stations.
-fn decided(header: &Header, outcomes: &[u8]) -> Vec<[u8; 3]> {
-    let three = |i: u8| outcomes[usize::from(i - 1) * 3..][..3].try_into().unwrap();
-    good(header).into_iter().map(three).collect()
+/// The outcomes of the good stations.
+fn decided(header: &Header, outcomes: &[u8]) -> Vec<Outcome> {
+    good(header).into_iter().map(|station| outcome(outcomes, station)).collect()
 }
 
 fn guarantees(header: &Header, outcomes: &[u8]) {
     let f = header.marks.count();
     let decided = decided(header, outcomes);
-    let agreed = decided.windows(2).all(|two| two[0][0] == two[1][0]);
-    let flagged = |outcome: &[u8; 3]| outcome[2] == 1;
+    let agreed = decided.windows(2).all(|two| two[0].value == two[1].value);
+    let flagged = |outcome: &Outcome| outcome.flag == 1;
     if f <= header.t.into() {
         assert!(agreed && !decided.iter().any(flagged), "{header:?} {outcomes:?}");
     }
     if f <= header.upper.into() && !header.marks.bad(header.sender) {
-        assert!(decided.iter().all(|outcome| outcome[0] == header.value), "{header:?} {outcomes:?}");
+        assert!(decided.iter().all(|outcome| outcome.value == header.value), "{header:?} {outcomes:?}");
     }
     if f <= header.upper.into() && !agreed {
         assert!(decided.iter().all(flagged), "{header:?} {outcomes:?}");
@@ -57,8 +57,8 @@ impl Seen {
         let (_, outcomes) = run(header, table);
         guarantees(header, &outcomes);
         let decided = decided(header, &outcomes);
-        self.flags += usize::from(decided.iter().any(|outcome| outcome[2] == 1));
-        self.splits += usize::from(decided.windows(2).any(|two| two[0][0] != two[1][0]));
+        self.flags += usize::from(decided.iter().any(|outcome| outcome.flag == 1));
+        self.splits += usize::from(decided.windows(2).any(|two| two[0].value != two[1].value));
     }
 
     /// Without flags and splits the guarantees would say little.
@@ -119,9 +119,7 @@ fn follows(header: &Header, line: &Line, log: &[u8], outcomes: &[u8], own: u8, v
         assert!(line.stations().all(|to| log[line.place(round, own, to)] == ballot));
         station = station.take(&column(line, log, round, own)).unwrap();
     }
-    let three = &outcomes[usize::from(own - 1) * 3..][..3];
-    let done = Answer::Done { value: three[0], grade: three[1], flag: three[2] };
-    assert_eq!(station.result(), Ok(done));
+    assert_eq!(station.result(), Ok(Answer::Done(outcome(outcomes, own))));
 }
 
 #[test]
@@ -135,7 +133,7 @@ fn demand_2() {
             let (log, outcomes) = run(&header, &table);
             for own in line.stations() {
                 if header.marks.bad(own) {
-                    assert_eq!(outcomes[usize::from(own - 1) * 3..][..3], [255; 3]);
+                    assert_eq!(outcomes[place(own)], BAD);
                     let places = (1..=line.rounds()).flat_map(|r| (1..=header.n).map(move |j| (r, j)));
                     let mut places = places.map(|(round, to)| line.place(round, own, to));
                     assert!(places.all(|place| log[place] == table[place]));
@@ -158,27 +156,30 @@ fn speaks(header: &Header, line: &Line, round: u8, station: u8) -> bool {
 }
 
 /// Tables drawn by lot, each with another that is made of it: with both the good stations send the same and end with
-/// the same outcomes.
-fn same_effect(seed: u64, another: impl Fn(&mut Lot, &Header, &Line, &[u8]) -> Vec<u8>) {
-    let mut lot = Lot(seed);
+/// the same values, grades and flags. Gives in how many the counts differ.
+fn same_effect(seed: u64, another: impl Fn(&mut Lot, &Header, &Line, &[u8]) -> Vec<u8>) -> u32 {
+    let (mut lot, mut other_counts) = (Lot(seed), 0);
     for _ in 0..3_000 {
         let header = lot.header(7);
         let line = header.judge().unwrap();
         let table = lot.table(&line);
         let other = another(&mut lot, &header, &line, &table);
-        let ((log, outcomes), (other_log, other_outcomes)) = (run(&header, &table), run(&header, &other));
-        assert_eq!(outcomes, other_outcomes);
+        let ((log, ends), (other_log, other_ends)) = (run(&header, &table), run(&header, &other));
+        let uncounted = |ends| outcomes(ends).map(|end| Outcome { count: 0, ..end }).collect::<Vec<_>>();
+        assert_eq!(uncounted(&ends), uncounted(&other_ends));
+        other_counts += u32::from(ends != other_ends);
         for (place, (byte, other)) in log.iter().zip(&other_log).enumerate() {
             let from = (place / line.n() % line.n() + 1) as u8;
             assert!(header.marks.bad(from) || byte == other);
         }
     }
+    other_counts
 }
 
-/// Table bytes of good senders, and of bad ones that should not speak, have no effect.
+/// Table bytes of good senders, and of bad ones that should not speak, have no effect, on the counts neither.
 #[test]
 fn what_has_no_effect() {
-    same_effect(13, |lot, header, line, table| {
+    let other_counts = same_effect(13, |lot, header, line, table| {
         let mut other = table.to_vec();
         for round in 1..=line.rounds() {
             for from in line.stations() {
@@ -189,15 +190,17 @@ fn what_has_no_effect() {
         }
         other
     });
+    assert_eq!(other_counts, 0);
 }
 
-/// Which byte other than 0 and 1 stands in a table has no effect: blank, garbled or silence.
+/// Which byte other than 0 and 1 stands in a table has no effect but on the counts: blank, garbled or silence.
 #[test]
 fn foreign_bytes_are_alike() {
-    same_effect(16, |lot, _, _, table| {
+    let other_counts = same_effect(16, |lot, _, _, table| {
         let mut foreign = |byte| if byte <= 1 { byte } else { lot.pick(&[2, 3, 77, 254, 255]) };
         table.iter().map(|&byte| foreign(byte)).collect()
     });
+    assert!(other_counts > 500, "{other_counts}");
 }
 
 /// The exchange had alone is what single stations make of rounds 2 and 3.
@@ -227,23 +230,24 @@ fn exchange_alone() {
                 *station = station.map(|s| s.take(&row).unwrap());
             }
         }
-        for (station, outcome) in stations.iter().zip(outcomes.chunks(3)) {
-            let expected = station.map_or([255; 3], |s| [s.value, s.grade, u8::from(s.grade < 2)]);
+        for (station, outcome) in stations.iter().zip(outcomes.chunks(BAD.len())) {
+            let expected = station.map_or(BAD, |s| [s.value, s.grade, u8::from(s.grade < 2), s.count]);
             assert_eq!(outcome, expected);
         }
     }
 }
 
-/// The bytes 0, the bytes 1 and the others make n.
+/// The bytes 0, the bytes 1 and the others make n; all others but silence, and in the second round blank, are garbled.
 #[test]
 fn tallies_make_n() {
     let mut lot = Lot(15);
     for _ in 0..20_000 {
         let n = 1 + lot.below(32) as usize;
         let row: Vec<u8> = (0..n).map(|_| lot.ballot()).collect();
-        let Tally { zeros, ones, neither } = Tally::of(&row);
-        let bytes = |byte: u8| row.iter().filter(|&&other| other == byte).count();
-        assert_eq!((usize::from(zeros), usize::from(ones)), (bytes(0), bytes(1)));
-        assert_eq!(usize::from(zeros + ones + neither), n);
+        let bytes = |byte: u8| row.iter().filter(|&&other| other == byte).count() as u8;
+        let (zeros, ones, neither) = (bytes(0), bytes(1), n as u8 - bytes(0) - bytes(1));
+        let garbled = neither - bytes(255);
+        assert_eq!(Tally::of_first(&row), Tally { zeros, ones, neither, garbled });
+        assert_eq!(Tally::of_second(&row), Tally { zeros, ones, neither, garbled: garbled - bytes(2) });
     }
 }

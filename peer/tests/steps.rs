@@ -3,8 +3,9 @@
 mod common;
 
 use common::header;
-use peer::exchange::{alone, flag, Tally};
+use peer::exchange::{alone, Tally};
 use peer::line::{Line, Marks};
+use peer::outcome::{flag, Outcome};
 use peer::rehearsal::rehearse;
 use peer::station::{Answer, Station};
 
@@ -14,13 +15,14 @@ const FOREIGN: [u8; 5] = [2, 3, 77, 254, 255];
 #[test]
 fn a_foreign_byte_counts_for_neither_value() {
     let row = [0, 1, 2, 255, 77, 3, 1];
-    assert_eq!(Tally::of(&row), Tally { zeros: 1, ones: 2, neither: 4 });
+    assert_eq!(Tally::of_first(&row), Tally { zeros: 1, ones: 2, neither: 4, garbled: 3 });
+    assert_eq!(Tally::of_second(&row), Tally { zeros: 1, ones: 2, neither: 4, garbled: 2 });
 }
 
 #[test]
 fn step_2_wants_n_minus_upper() {
     let line = Line::new(7, 1, 2).unwrap();
-    let z = |row: [u8; 7], x| Tally::of(&row).z(&line, x);
+    let z = |row: [u8; 7], x| Tally::of_first(&row).z(&line, x);
     assert_eq!(z([1, 1, 1, 1, 1, 0, 0], 1), 1);
     assert_eq!(z([1, 1, 1, 1, 1, 0, 0], 0), 2);
     assert_eq!(z([1, 1, 1, 1, 0, 0, 0], 1), 2);
@@ -34,7 +36,7 @@ fn step_2_wants_n_minus_upper() {
 #[test]
 fn steps_4_and_5() {
     let line = Line::new(7, 1, 2).unwrap();
-    let graded = |row: [u8; 7]| Tally::of(&row).graded(&line);
+    let graded = |row: [u8; 7]| Tally::of_second(&row).graded(&line);
     assert_eq!(graded([0, 0, 0, 0, 0, 0, 1]), (0, 2));
     assert_eq!(graded([0, 0, 0, 0, 0, 2, 2]), (0, 1));
     assert_eq!(graded([0, 0, 0, 0, 2, 2, 2]), (0, 0));
@@ -49,21 +51,30 @@ fn steps_4_and_5() {
 #[test]
 fn an_exchange_of_four() {
     let exchange = |inputs: [u8; 4], marks, table: &[u8; 32]| {
-        let mut outcomes = [9; 12];
+        let mut outcomes = [9; 16];
         alone((4, 1, 1), Marks(marks), &inputs, table, &mut outcomes).unwrap();
         outcomes
     };
     // all good, two and two: all blank, so 1 with grade 0
-    assert_eq!(exchange([0, 0, 1, 1], 0, &[0; 32]), [1, 0, 1, 1, 0, 1, 1, 0, 1, 1, 0, 1]);
+    assert_eq!(exchange([0, 0, 1, 1], 0, &[0; 32])[..], [[1, 0, 1, 0]; 4].concat());
     // three zeros are n−T: the fourth is blank, and three zeros are n−t
-    assert_eq!(exchange([0, 0, 0, 1], 0, &[1; 32]), [0, 2, 0, 0, 2, 0, 0, 2, 0, 0, 2, 0]);
-    // station 4 bad: a foreign byte counts for neither value, so two of three are too few, and all are blank
-    for byte in FOREIGN {
-        let foreign = |inputs| exchange(inputs, 0b1000, &[byte; 32]);
-        assert_eq!(foreign([1, 1, 1, 99]), [1, 2, 0, 1, 2, 0, 1, 2, 0, 255, 255, 255]);
-        assert_eq!(foreign([0, 0, 0, 99]), [0, 2, 0, 0, 2, 0, 0, 2, 0, 255, 255, 255]);
-        assert_eq!(foreign([0, 0, 1, 99]), [1, 0, 1, 1, 0, 1, 1, 0, 1, 255, 255, 255], "{byte}");
-        assert_eq!(foreign([1, 1, 0, 99]), [1, 0, 1, 1, 0, 1, 1, 0, 1, 255, 255, 255], "{byte}");
+    assert_eq!(exchange([0, 0, 0, 1], 0, &[1; 32])[..], [[0, 2, 0, 0]; 4].concat());
+    // station 4 bad: a foreign byte counts for neither value, so two of three are too few, and all are blank; blank is
+    // garbled in the first of the two rounds, silence in none
+    for (byte, count) in FOREIGN.into_iter().zip([1, 2, 2, 2, 0]) {
+        let foreign = |inputs, good: [u8; 3]| {
+            let [value, grade, flag] = good;
+            let good = [value, grade, flag, count];
+            assert_eq!(
+                exchange(inputs, 0b1000, &[byte; 32])[..],
+                [good, good, good, [255; 4]].concat(),
+                "{byte}"
+            );
+        };
+        foreign([1, 1, 1, 99], [1, 2, 0]);
+        foreign([0, 0, 0, 99], [0, 2, 0]);
+        foreign([0, 0, 1, 99], [1, 0, 1]);
+        foreign([1, 1, 0, 99], [1, 0, 1]);
     }
 }
 
@@ -73,23 +84,24 @@ fn a_station_of_one_round_after_another() {
     let mut step = |ballot: u8, row: [u8; 4]| {
         assert_eq!(station.ballot(), Ok(ballot));
         station = station.take(&row).unwrap();
-        (station.round, station.value, station.z, station.grade)
+        (station.round, station.value, station.z, station.grade, station.count)
     };
     // the sender's ballot is garbled: read as 0; z and grade stay as they were
-    assert_eq!(step(255, [1, 7, 1, 1]), (2, 0, 2, 0));
+    assert_eq!(step(255, [1, 7, 1, 1]), (2, 0, 2, 0, 1));
     // silence counts for neither value: two zeros are too few
-    assert_eq!(step(0, [1, 255, 0, 0]), (3, 0, 2, 0));
+    assert_eq!(step(0, [1, 255, 0, 0]), (3, 0, 2, 0, 1));
     // two zeros, one one, a blank: y 0, grade 0
-    assert_eq!(step(2, [0, 1, 2, 0]), (4, 0, 2, 0));
-    // king 1 is obeyed at grade 0
-    assert_eq!(step(255, [1, 255, 255, 255]), (5, 1, 2, 0));
-    assert_eq!(step(1, [1, 0, 1, 0]), (6, 1, 2, 0));
-    assert_eq!(step(2, [1, 1, 1, 255]), (7, 1, 2, 2));
-    // king 2 is not obeyed at grade 2
-    assert_eq!(step(255, [0, 0, 0, 0]), (8, 1, 2, 2));
-    assert_eq!(step(1, [1, 1, 1, 0]), (9, 1, 1, 2));
-    assert_eq!(step(1, [2, 2, 2, 2]), (10, 1, 1, 0));
-    assert_eq!(station.result(), Ok(Answer::Done { value: 1, grade: 0, flag: 1 }));
+    assert_eq!(step(2, [0, 1, 2, 0]), (4, 0, 2, 0, 1));
+    // king 1 is obeyed at grade 0; nobody expects a ballot from station 3
+    assert_eq!(step(255, [1, 255, 77, 255]), (5, 1, 2, 0, 1));
+    // two garbled ballots make one garbled round
+    assert_eq!(step(1, [77, 2, 1, 0]), (6, 1, 2, 0, 2));
+    assert_eq!(step(2, [1, 1, 1, 255]), (7, 1, 2, 2, 2));
+    // king 2 is not obeyed at grade 2, and its garbled ballot is counted
+    assert_eq!(step(255, [0, 2, 0, 0]), (8, 1, 2, 2, 3));
+    assert_eq!(step(1, [1, 1, 1, 0]), (9, 1, 1, 2, 3));
+    assert_eq!(step(1, [2, 2, 2, 2]), (10, 1, 1, 0, 3));
+    assert_eq!(station.result(), Ok(Answer::Done(Outcome { value: 1, grade: 0, flag: 1, count: 3 })));
 }
 
 #[test]
@@ -106,7 +118,7 @@ fn a_king_tells_its_y() {
 #[test]
 fn a_king_is_obeyed_at_grade_0() {
     for (grade, value) in [(0, 0), (1, 1), (2, 1)] {
-        let station = Station::from_bytes([4, 1, 1, 2, 3, 4, 1, 2, grade]);
+        let station = Station::from_bytes([4, 1, 1, 2, 3, 4, 1, 2, grade, 0]);
         assert_eq!(station.take(&[0, 1, 1, 1]).unwrap().value, value, "grade {grade}");
     }
 }
@@ -127,7 +139,7 @@ fn a_foreign_sender() {
 fn a_foreign_king() {
     for (byte, y) in FOREIGN.iter().flat_map(|&byte| [(byte, 0), (byte, 1)]) {
         for grade in 0..=2 {
-            let station = Station::from_bytes([4, 1, 1, 2, 3, 4, y, 2, grade]);
+            let station = Station::from_bytes([4, 1, 1, 2, 3, 4, y, 2, grade, 0]);
             assert_eq!(station.take(&[byte, 1 - y, 1 - y, 1 - y]).unwrap().value, y, "{byte}, grade {grade}");
         }
     }
@@ -154,7 +166,7 @@ fn a_foreign_king_leaves_y() {
 fn the_log_of_a_silent_king() {
     let mut table = [255; 9 * 16];
     (table[1], table[3]) = (0, 1);
-    let (mut log, mut outcomes) = ([9; 9 * 16], [9; 12]);
+    let (mut log, mut outcomes) = ([9; 9 * 16], [9; 16]);
     rehearse(&header(4, 1, 1, 1, 0, 0b0001), &table, &mut log, &mut outcomes).unwrap();
     // x is 0, 0, 1, each too few for z; y is 1 with grade 0, and king 1 leaves it so; then all have 1, king 2 too
     let (none, ones) = ([255; 3], [1; 3]);
@@ -162,16 +174,17 @@ fn the_log_of_a_silent_king() {
     for ((said, ballots), round) in log.chunks(16).zip(sent).zip(1..) {
         assert_eq!(said[4..], ballots.map(|ballot| [ballot; 4]).concat(), "round {round}");
     }
-    assert_eq!(outcomes, [255, 255, 255, 1, 2, 0, 1, 2, 0, 1, 2, 0]);
+    let good = [1, 2, 0, 0];
+    assert_eq!(outcomes[..], [[255; 4], good, good, good].concat());
 }
 
 /// Good stations that don't speak are logged as silent.
 #[test]
 fn the_log_of_a_quiet_line() {
-    let (mut log, mut outcomes) = ([9; 6 * 4], [9; 6]);
+    let (mut log, mut outcomes) = ([9; 6 * 4], [9; 8]);
     rehearse(&header(2, 0, 0, 2, 1, 0), &[0; 24], &mut log, &mut outcomes).unwrap();
     let all = [1, 1, 1, 1];
     let expected = [[255, 255, 1, 1], all, all, [1, 1, 255, 255], all, all];
     assert_eq!(log, expected.concat()[..]);
-    assert_eq!(outcomes, [1, 2, 0, 1, 2, 0]);
+    assert_eq!(outcomes, [1, 2, 0, 0, 1, 2, 0, 0]);
 }

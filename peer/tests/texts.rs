@@ -23,7 +23,7 @@ round 1-3 5 6 from 1 to 3 ballot 1
 #[test]
 fn case_c() {
     let sheet = to_sheet(CASE_C).unwrap();
-    assert_eq!(listing(&sheet), "agree 3 0 1 1 6\n1 - - -\n2 0 1 1\n3 1 1 1\n");
+    assert_eq!(listing(&sheet), "agree 3 0 1 1 6\n1 - - - -\n2 0 1 1 0\n3 1 1 1 0\n");
     let normal = of_sheet(&sheet).unwrap();
     assert!(
         normal.starts_with("n 3\nt 0\nT 1\nsender 1\nvalue 0\nbad 1\nround 1 from 1 to 2 ballot 0\nround 2 ")

@@ -101,8 +101,8 @@ fn rehearsal(args: &Value) -> Value {
 fn result(station: &Station) -> Value {
     match station.result() {
         Ok(Answer::Running { round }) => Value::object([("running", Value::Number(round.into()))]),
-        Ok(Answer::Done { value, grade, flag }) => {
-            let numbers = [value, grade, flag].map(|byte| Value::Number(byte.into()));
+        Ok(Answer::Done(outcome)) => {
+            let numbers = outcome.to_bytes().map(|byte| Value::Number(byte.into()));
             Value::object([("done", Value::List(numbers.to_vec()))])
         }
         Err(cause) => refused(cause),
@@ -131,7 +131,7 @@ fn station(args: &Value) -> Value {
 }
 
 fn station_state(args: &Value) -> Value {
-    let names = ["n", "t", "T", "sender", "own", "round", "value", "z", "grade"];
+    let names = ["n", "t", "T", "sender", "own", "round", "value", "z", "grade", "count"];
     let station = Station::from_bytes(names.map(|name| args.number(name)));
     let number = |cause: Option<Cause>| Value::Number(cause.map_or(0, Cause::number).into());
     let ballot = number(station.ballot().err());

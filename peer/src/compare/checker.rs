@@ -51,7 +51,7 @@ pub fn check(lot: &mut Lot) -> Compared {
 
 /// A log and its outcomes checked by both.
 pub fn check_of(logged: &Logged) -> Compared {
-    let ours = word(logged.checked().map(|marks| marks.0), 0);
+    let ours = word(logged.checked().map(|marks| marks.0.into()), 0);
     let (theirs, changed) = verified(logged.numbers, logged.sender, &logged.log, &logged.outcomes);
     compared(ours, difference(ours, theirs).or(changed), |what| told(what, logged))
 }

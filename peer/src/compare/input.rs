@@ -42,9 +42,10 @@ impl Told {
     }
 
     pub fn station(self, station: &Station) -> Told {
-        let Station { n, t, upper, sender, own, round, value, z, grade } = *station;
+        let Station { n, t, upper, sender, own, round, value, z, grade, count } = *station;
         let told = self.line((n, t, upper)).number("sender", sender).number("own", own);
-        told.number("round", round).number("value", value).number("z", z).number("grade", grade)
+        let told = told.number("round", round).number("value", value).number("z", z);
+        told.number("grade", grade).number("count", count)
     }
 
     pub fn text(self) -> String {

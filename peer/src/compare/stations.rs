@@ -7,7 +7,8 @@ use super::report::Compared;
 use crate::ffi;
 use crate::line::Cause;
 use crate::lot::Lot;
-use crate::station::{Answer, Station};
+use crate::outcome::Outcome;
+use crate::station::{Answer, Station, STATION};
 
 /// The numbers that opening can answer.
 pub const OPEN: [u8; 5] = [0, 2, 3, 4, 5];
@@ -16,18 +17,15 @@ pub const ASK: [u8; 5] = [0, 2, 3, 4, 7];
 /// The numbers that handing over a row can answer.
 pub const ADVANCE: [u8; 6] = [0, 2, 3, 4, 7, 8];
 
-/// An answer as the verified call gives it: the number above, the values below.
-pub fn word(answer: Result<u32, Cause>, refused: u32) -> u64 {
-    match answer {
-        Ok(values) => u64::from(values),
-        Err(cause) => u64::from(cause.number()) << 32 | u64::from(refused),
-    }
+/// An answer as the verified call gives it: the values, or the number above those that a refusal leaves.
+pub fn word(answer: Result<u64, Cause>, left: u64) -> u64 {
+    answer.unwrap_or_else(|cause| ffi::refused(cause.number(), left))
 }
 
-pub fn result_values(answer: Answer) -> u32 {
-    u32::from_le_bytes(match answer {
-        Answer::Running { round } => [0, round, 0, 0],
-        Answer::Done { value, grade, flag } => [1, value, grade, flag],
+pub fn result_values(answer: Answer) -> u64 {
+    u64::from_le_bytes(match answer {
+        Answer::Running { round } => [0, round, 0, 0, 0, 0, 0, 0],
+        Answer::Done(Outcome { value, grade, flag, count }) => [1, value, grade, flag, count, 0, 0, 0],
     })
 }
 
@@ -38,7 +36,7 @@ pub fn difference(ours: u64, theirs: u64) -> Option<String> {
 
 pub fn compared(ours: u64, difference: Option<String>, told: impl FnOnce(Told) -> Told) -> Compared {
     let difference = difference.map(|what| told(Told::new(&what)).text());
-    Compared { number: (ours >> 32) as u8, difference }
+    Compared { number: ffi::refusal(ours), difference }
 }
 
 /// A station's number, now and then none.
@@ -58,7 +56,7 @@ fn station(lot: &mut Lot) -> Station {
     let own = own(lot, n, sender);
     let last = t.wrapping_mul(3).wrapping_add(6);
     let inside = 1 + lot.below(u64::from(last.max(1))) as u8;
-    let state = match lot.below(12) {
+    let [round, value, z, grade] = match lot.below(12) {
         0 => lot.word().to_le_bytes()[..4].try_into().expect("four bytes"),
         1 | 2 => {
             let round = lot.pick(&[0, 1, last, last.wrapping_add(1), last.wrapping_add(2), 255]);
@@ -67,8 +65,17 @@ fn station(lot: &mut Lot) -> Station {
         3 => [last.wrapping_add(1), lot.below(2) as u8, lot.below(3) as u8, lot.below(3) as u8],
         _ => [inside, lot.below(2) as u8, lot.below(3) as u8, lot.below(3) as u8],
     };
-    let [round, value, z, grade] = state;
-    Station { n, t, upper, sender, own, round, value, z, grade }
+    Station { n, t, upper, sender, own, round, value, z, grade, count: count(lot, round) }
+}
+
+/// A count, mostly one that is below the round.
+fn count(lot: &mut Lot, round: u8) -> u8 {
+    let byte = lot.byte();
+    match lot.below(12) {
+        0 => lot.pick(&[round, round, round.wrapping_add(1), 255, byte]),
+        1..=3 => round.saturating_sub(1),
+        _ => lot.below(u64::from(round.max(1))) as u8,
+    }
 }
 
 /// A row, mostly of n bytes: any ballots, or ballots of one kind with others near a threshold.
@@ -126,7 +133,7 @@ pub fn open_with(line: (u8, u8, u8), sender: u8, own: u8, value: u8) -> Compared
 
 /// A station's ballot told by both.
 pub fn ballot_of(station: &Station) -> Compared {
-    let ours = word(station.ballot().map(u32::from), 0);
+    let ours = word(station.ballot().map(u64::from), 0);
     compared(ours, difference(ours, ffi::ballot(station)), |told| told.station(station))
 }
 
@@ -139,10 +146,10 @@ pub fn advance_by(station: &Station, row: &[u8]) -> Compared {
     compared(ours, differs, |told| told.station(station).bytes("row", row))
 }
 
-/// A row taken by both where the station's nine bytes stand.
+/// A row taken by both where the station's bytes stand.
 pub fn advance_lent_by(row: &[u8], lent: &mut Lending) -> Compared {
     let mut read = Reading::new("the row", row);
-    let bytes: &mut [u8; 9] = lent.ours.bytes().try_into().expect("nine bytes");
+    let bytes: &mut [u8; STATION] = lent.ours.bytes().try_into().expect("a station's bytes");
     let station = Station::from_bytes(*bytes);
     let ours = station.take(row).map(|next| *bytes = next.to_bytes());
     let number = ours.map_or_else(Cause::number, |()| 0);

@@ -3,10 +3,11 @@
 use super::input::Told;
 use super::lent::Reading;
 use super::report::Compared;
-use super::stations::{result_values, word};
+use super::stations::result_values;
 use crate::ffi::{self, Handed};
 use crate::line::{Header, Line};
 use crate::lot::Lot;
+use crate::outcome::outcome;
 use crate::rehearsal::rehearse;
 use crate::station::{Answer, Station};
 
@@ -34,17 +35,17 @@ impl Run {
     fn step_through(&self, own: u8, value: u8) -> Option<String> {
         let Header { n, t, upper, sender, .. } = self.header;
         let at = |state: u64| {
-            let [round, value, z, grade, ..] = state.to_le_bytes();
-            Station { n, t, upper, sender, own, round, value, z, grade }
+            let [round, value, z, grade, count, ..] = state.to_le_bytes();
+            Station { n, t, upper, sender, own, round, value, z, grade, count }
         };
         let fault = |what: &str, round: u8| Some(format!("station {own}, round {round}: {what}"));
         let mut state = ffi::open((n, t, upper), sender, own, value);
         for round in 1..=self.line.rounds() {
-            if state >> 32 != 0 {
+            if ffi::refusal(state) != 0 {
                 return fault("the station or its row is refused", round);
             }
             let station = at(state);
-            if ffi::result(&station) != u64::from(result_values(Answer::Running { round })) {
+            if ffi::result(&station) != result_values(Answer::Running { round }) {
                 return fault("the result is another", round);
             }
             if Some(ffi::ballot(&station)) != self.said(round, own).map(u64::from) {
@@ -61,9 +62,8 @@ impl Run {
                 return fault("the lent station is another", round);
             }
         }
-        let [value, grade, flag] = [0, 1, 2].map(|byte| self.outcomes[usize::from(own - 1) * 3 + byte]);
-        let done = word(Ok(result_values(Answer::Done { value, grade, flag })), 0);
-        if state >> 32 != 0 || ffi::result(&at(state)) != done {
+        let done = result_values(Answer::Done(outcome(&self.outcomes, own)));
+        if ffi::refusal(state) != 0 || ffi::result(&at(state)) != done {
             return fault("the outcome is another", self.line.rounds() + 1);
         }
         None

@@ -139,7 +139,7 @@ fn reading(header: &[u8], table: &[u8]) -> [Reading; 2] {
 
 /// What both calls answer: a number, here of bytes or records.
 fn answer(answer: Result<usize, Cause>) -> u64 {
-    word(answer.map(|number| number as u32), 0)
+    word(answer.map(|number| number as u64), 0)
 }
 
 /// The length of a sheet told by both.
@@ -148,7 +148,7 @@ pub fn sheet_len_of(header: &[u8], table: &[u8]) -> Compared {
     let ours = answer(writer::sheet_len(header, table));
     let [first, second] = read.each_mut().map(Reading::handed);
     let theirs = ffi::sheet_len(first, second);
-    let differs = difference(ours, theirs).or_else(|| fault(ours >> 32 != 0, &[], &read.each_ref()));
+    let differs = difference(ours, theirs).or_else(|| fault(ffi::refusal(ours) != 0, &[], &read.each_ref()));
     compared(ours, differs, |told| told.bytes("header", header).bytes("table", table))
 }
 
@@ -158,7 +158,8 @@ pub fn write_into(header: &[u8], table: &[u8], sheet: &mut Lending) -> Compared 
     let ours = answer(writer::write(header, table, sheet.ours.bytes()));
     let [first, second] = read.each_mut().map(Reading::handed);
     let theirs = ffi::write(first, second, sheet.theirs.handed());
-    let differs = difference(ours, theirs).or_else(|| fault(ours >> 32 != 0, &[sheet], &read.each_ref()));
+    let differs =
+        difference(ours, theirs).or_else(|| fault(ffi::refusal(ours) != 0, &[sheet], &read.each_ref()));
     let len = sheet.theirs.bytes().len() as u64;
     let told = |told: Told| told.bytes("header", header).bytes("table", table).number("sheet length", len);
     compared(ours, differs, told)

@@ -26,7 +26,7 @@ fn speaker(sender: u8, part: Part) -> Option<u8> {
 
 impl Drawing<'_> {
     /// Draws a round with its title, grid and strips.
-    pub fn round(&mut self, round: u8, after: &[Option<Station>]) {
+    pub fn round(&mut self, round: u8, before: &[Option<Station>], after: &[Option<Station>]) {
         let line = self.run.line;
         let part = line.part(round);
         let (x, y) = self.layout.round_corner(round, part);
@@ -35,11 +35,12 @@ impl Drawing<'_> {
         self.borders();
         self.svg.open_cells(self.layout.cell);
         for from in line.stations() {
-            self.said(from, &self.run.log[line.place(round, from, 1)..][..line.n()]);
+            self.said(part, from, &self.run.log[line.place(round, from, 1)..][..line.n()]);
         }
         self.svg.lattice(0, self.layout.cell, (line.n() as i32, line.n() as i32));
         self.strips(part, after);
         self.svg.close();
+        self.counted(before, after);
         let speaker = speaker(self.run.header.sender, part);
         if let Some(speaker) = speaker {
             self.one_speaks(speaker);
@@ -77,12 +78,12 @@ impl Drawing<'_> {
     }
 
     /// What one station said to each: a row of the grid.
-    fn said(&mut self, from: u8, row: &[u8]) {
+    fn said(&mut self, part: Part, from: u8, row: &[u8]) {
         let (cell, y) = (self.layout.cell, self.layout.at(from));
-        self.cells(y, row.iter().map(|&byte| Some(Kind::of(byte).looks())).collect());
+        self.cells(y, row.iter().map(|&byte| Some(Kind::of(part, byte).looks())).collect());
         let font = Font::plain(cell * 2 / 5).middle();
         for (to, &byte) in (1..).zip(row) {
-            if Kind::of(byte) == Kind::Garbled && self.numbers_fit() {
+            if Kind::of(part, byte) == Kind::Garbled && self.numbers_fit() {
                 let x = self.layout.at(to) + cell / 2;
                 self.svg.text(x, y + cell / 2 + font.drop(), font, &byte.to_string());
             }
@@ -140,12 +141,22 @@ impl Drawing<'_> {
         }
     }
 
+    /// A bar right below the grid for each station that counts the round as garbled.
+    fn counted(&mut self, before: &[Option<Station>], after: &[Option<Station>]) {
+        let (side, y) = (self.layout.cell - 1, self.layout.grid() + 1);
+        for (before, after) in before.iter().flatten().zip(after.iter().flatten()) {
+            if after.count > before.count {
+                self.svg.garbled_bar(self.layout.at(after.own), y, side);
+            }
+        }
+    }
+
     /// What the good stations hold after the round.
     fn strips(&mut self, part: Part, after: &[Option<Station>]) {
-        let value = |station: &Station| Kind::of(station.value).looks();
+        let value = |station: &Station| Kind::held(station.value).looks();
         match part {
             Part::Sender | Part::King(_) => self.strip(0, "x", after, value),
-            Part::First => self.strip(0, "z", after, |station| Kind::of(station.z).looks()),
+            Part::First => self.strip(0, "z", after, |station| Kind::held(station.z).looks()),
             Part::Second => {
                 self.strip(0, "y", after, value);
                 self.strip(1, "grade", after, |station| GRADES[usize::from(station.grade)]);

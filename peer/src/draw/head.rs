@@ -21,6 +21,7 @@ pub fn head(svg: &mut Svg, run: &Run) -> i32 {
     y = paragraph(svg, (MARGIN, y + 8), VERDICT, &verdict.outcome());
     y = paragraph(svg, (MARGIN, y + 4), BODY, &verdict.sender());
     y = paragraph(svg, (MARGIN, y), BODY, &verdict.promise());
+    y = paragraph(svg, (MARGIN, y), BODY, &verdict.garbled());
     y = outcome::table(svg, run, y + 16);
     y = paragraph(svg, (MARGIN, y + 20), HEADING, "What the numbers and letters mean") + 2;
     for group in meanings(&run.line) {

@@ -19,7 +19,7 @@ pub const GUTTER: i32 = 44;
 pub const HEAD: i32 = 42;
 /// Between a grid and the strips below it.
 pub const GAP: i32 = 6;
-/// The bar of a bad station.
+/// The bar of a bad station, and of one that counts a round as garbled.
 pub const BAR: i32 = 4;
 
 /// Above a block: a rule and what the block is.
@@ -31,7 +31,7 @@ const BELOW: i32 = 14;
 /// The largest cell.
 const MOST_CELL: i32 = 21;
 /// The least height of round 1's band, which has the legend.
-const LEGEND: i32 = 206;
+const LEGEND: i32 = 231;
 /// The most stations of a line whose rounds stand three in a row.
 const MOST_ACROSS: i32 = 16;
 

@@ -1,7 +1,7 @@
 //! What the colours, symbols and marks of a grid mean.
 
 use super::grid::DIFFER;
-use super::layout::HEAD;
+use super::layout::{BAR, HEAD};
 use super::svg::Font;
 use super::words::lines;
 use super::{Drawing, Kind, GRADES, SMALL};
@@ -17,6 +17,7 @@ const FIRST: i32 = 252;
 #[derive(Clone, Copy)]
 enum Entry {
     Byte(Kind),
+    Counted,
     Bad,
     Framed,
     Faded,
@@ -24,12 +25,13 @@ enum Entry {
     Grades,
 }
 
-const ENTRIES: [Entry; 10] = [
+const ENTRIES: [Entry; 11] = [
     Entry::Byte(Kind::Zero),
     Entry::Byte(Kind::One),
     Entry::Byte(Kind::Blank),
     Entry::Byte(Kind::Silence),
     Entry::Byte(Kind::Garbled),
+    Entry::Counted,
     Entry::Bad,
     Entry::Differ,
     Entry::Framed,
@@ -41,9 +43,10 @@ fn meaning(entry: Entry) -> &'static str {
     match entry {
         Entry::Byte(Kind::Zero) => "0: keep the old recipe",
         Entry::Byte(Kind::One) => "1: change over",
-        Entry::Byte(Kind::Blank) => "2: blank",
+        Entry::Byte(Kind::Blank) => "2 where all tell z: blank",
         Entry::Byte(Kind::Silence) => "255: silence",
         Entry::Byte(Kind::Garbled) => "any other byte: garbled",
+        Entry::Counted => "it counts the round: garbled",
         Entry::Bad => "bad station: may say anything",
         Entry::Framed => "framed: the one who should speak",
         Entry::Faded => "faded: out of turn, without effect",
@@ -66,7 +69,7 @@ impl Drawing<'_> {
             self.svg.text(0, top, SMALL, &line);
             top += 18;
         }
-        let first = if self.layout.legend_columns() == 2 { 5 } else { ENTRIES.len() };
+        let first = if self.layout.legend_columns() == 2 { 6 } else { ENTRIES.len() };
         for (place, entry) in (0..).zip(ENTRIES) {
             let column = if place < first { 0 } else { FIRST };
             self.svg.open(column, top + (place % first) as i32 * LINE);
@@ -80,6 +83,7 @@ impl Drawing<'_> {
         let mut words = WORDS;
         match entry {
             Entry::Byte(kind) => self.sample(kind),
+            Entry::Counted => self.svg.garbled_bar(0, (SIDE - BAR) / 2, SIDE - 1),
             Entry::Bad => self.svg.hatched(0, 0, (SIDE - 1, SIDE - 1)),
             Entry::Framed => {
                 self.sample(Kind::One);

@@ -1,5 +1,5 @@
 //! The thresholds and letters of a run, in a planner's words: document 01, "The graded exchange" and "The
-//! broadcast", with Ticket 2 of document 02.
+//! broadcast", with Tickets 2 and 4 of document 02.
 
 use crate::line::Line;
 
@@ -62,6 +62,9 @@ fn words(line: &Line) -> Vec<Meaning> {
     );
     let ballot =
         "the byte that one tells another; if not 0 or 1 it counts for neither, but in round 1 it is read as 0";
+    let garbled =
+        "a ballot that says nothing in its round, silence apart; a station counts the rounds with one from \
+                   those who should speak";
     vec![
         entry("king", king),
         entry(
@@ -73,6 +76,7 @@ fn words(line: &Line) -> Vec<Meaning> {
         ),
         entry("flag", flag),
         entry("ballot", ballot),
+        entry("garbled", garbled),
     ]
 }
 
@@ -96,7 +100,9 @@ mod tests {
         assert!(grade.contains("2 with n\u{2212}t = 8 ") && grade.contains("1 with n\u{2212}T = 6 "));
         assert!(meaning(&line, "flag").contains("more than t = 1 are"));
         assert!(meaning(&line, "phase").contains("2 phases"));
-        ["t = 1", "T = 3", "x", "y", "king", "ballot"].iter().for_each(|term| drop(meaning(&line, term)));
+        ["t = 1", "T = 3", "x", "y", "king", "ballot", "garbled"]
+            .iter()
+            .for_each(|term| drop(meaning(&line, term)));
     }
 
     /// Grade 1 is said to occur exactly where some count gives it.

@@ -11,7 +11,8 @@ mod svg;
 mod verdict;
 mod words;
 
-use crate::line::Header;
+use crate::ballot::Ballot;
+use crate::line::{Header, Part};
 use crate::listing::Run;
 use crate::station::Station;
 use layout::Layout;
@@ -39,14 +40,20 @@ enum Kind {
 }
 
 impl Kind {
-    fn of(byte: u8) -> Kind {
-        match byte {
-            0 => Kind::Zero,
-            1 => Kind::One,
-            2 => Kind::Blank,
-            255 => Kind::Silence,
-            _ => Kind::Garbled,
+    /// What a byte was in a round of this kind.
+    fn of(part: Part, byte: u8) -> Kind {
+        match part.read(byte) {
+            Ballot::Bit(0) => Kind::Zero,
+            Ballot::Bit(_) => Kind::One,
+            Ballot::Blank => Kind::Blank,
+            Ballot::Silence => Kind::Silence,
+            Ballot::Garbled => Kind::Garbled,
         }
+    }
+
+    /// What a station holds: a bit or blank, as it is told in the second round of an exchange.
+    fn held(byte: u8) -> Kind {
+        Kind::of(Part::Second, byte)
     }
 
     /// Its colour, of the Okabe and Ito palette, and its symbol.
@@ -67,21 +74,21 @@ type Look = (&'static str, &'static str);
 /// How grades 0, 1 and 2 are shown.
 const GRADES: [Look; 3] = [("#f0f0f0", "0"), ("#d0d0d0", "1"), ("#a6a6a6", "2")];
 
-/// Each station's state after each round; none for a bad one.
+/// Each station's state before the first round and after each; none for a bad one.
 fn states(run: &Run) -> Vec<Vec<Option<Station>>> {
     let Header { n, t, upper, sender, value, marks } = run.header;
     let open = |own| Station::open((n, t, upper), sender, own, value).ok().filter(|_| !marks.bad(own));
     let mut now: Vec<Option<Station>> = run.line.stations().map(open).collect();
-    let mut after = Vec::new();
+    let mut states = vec![now.clone()];
     for round in 1..=run.line.rounds() {
         for station in now.iter_mut().flatten() {
             let byte = |from| run.log[run.line.place(round, from, station.own)];
             let row: Vec<u8> = run.line.stations().map(byte).collect();
             *station = station.take(&row).expect("a good station takes its rows");
         }
-        after.push(now.clone());
+        states.push(now.clone());
     }
-    after
+    states
 }
 
 impl Drawing<'_> {
@@ -119,8 +126,8 @@ pub fn draw(run: &Run) -> String {
     let mut drawing = Drawing { run, layout, svg };
     drawing.legend();
     drawing.headings();
-    for (round, after) in (1..).zip(states(run)) {
-        drawing.round(round, &after);
+    for (round, states) in (1..).zip(states(run).windows(2)) {
+        drawing.round(round, &states[0], &states[1]);
     }
     drawing.svg.finish(size, "A rehearsal: what came out, and each round")
 }

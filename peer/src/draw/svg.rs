@@ -2,6 +2,9 @@
 
 use std::fmt::{self, Write};
 
+use super::layout::BAR;
+use super::Kind;
+
 /// A text's size, weight, colour, and which of its points stands at the given place.
 #[derive(Clone, Copy)]
 pub struct Font {
@@ -74,6 +77,11 @@ impl Svg {
 
     pub fn frame(&mut self, x: i32, y: i32, size: (i32, i32)) {
         self.shape(x, y, size, format_args!("fill=\"none\" stroke=\"#000000\" stroke-width=\"2\""));
+    }
+
+    /// The bar of a station that counts a round as garbled.
+    pub fn garbled_bar(&mut self, x: i32, y: i32, width: i32) {
+        self.rect(x, y, (width, BAR), Kind::Garbled.looks().0);
     }
 
     /// A flag on its pole, 8 wide and 11 high.

@@ -3,6 +3,7 @@
 use super::words::{begun, count};
 use crate::line::Line;
 use crate::listing::Run;
+use crate::outcome::{outcomes, Outcome};
 use crate::text::list_text;
 
 /// What the sentences about a run are made of.
@@ -16,6 +17,8 @@ pub struct Verdict {
     decide: [usize; 2],
     /// How many good stations flag.
     flags: usize,
+    /// The good stations that count garbled rounds, and how many.
+    garbled: Vec<(u8, u8)>,
 }
 
 /// What stations with this value do.
@@ -28,20 +31,27 @@ fn does(value: u8, stations: usize) -> &'static str {
     }
 }
 
+/// Stations in a sentence.
+fn listed(stations: &[u8]) -> String {
+    list_text(stations).replace(' ', ", ")
+}
+
 impl Verdict {
     pub fn of(run: &Run) -> Verdict {
         let (line, header) = (run.line, &run.header);
         let is_bad = |&station: &u8| header.marks.bad(station);
-        let good = line.stations().zip(run.outcomes.chunks_exact(3)).filter(|(station, _)| !is_bad(station));
-        let good: Vec<&[u8]> = good.map(|(_, outcome)| outcome).collect();
-        let deciding = |value| good.iter().filter(|outcome| outcome[0] == value).count();
+        let all = line.stations().zip(outcomes(&run.outcomes));
+        let good: Vec<(u8, Outcome)> = all.filter(|(station, _)| !is_bad(station)).collect();
+        let deciding = |value| good.iter().filter(|(_, outcome)| outcome.value == value).count();
+        let counts = good.iter().map(|(station, outcome)| (*station, outcome.count));
         Verdict {
             line,
             sender: header.sender,
             sent: Some(header.value).filter(|_| !is_bad(&header.sender)),
             bad: line.stations().filter(is_bad).collect(),
             decide: [deciding(0), deciding(1)],
-            flags: good.iter().filter(|outcome| outcome[2] == 1).count(),
+            flags: good.iter().filter(|(_, outcome)| outcome.flag == 1).count(),
+            garbled: counts.filter(|(_, count)| *count > 0).collect(),
         }
     }
 
@@ -121,13 +131,33 @@ impl Verdict {
         format!("{}{so_many}: {promised}.", self.who_is_bad())
     }
 
+    /// Who counts garbled rounds, and how many.
+    pub fn garbled(&self) -> String {
+        match &self.garbled[..] {
+            [] => "No good station counts a garbled round.".to_string(),
+            [(station, 1)] => format!("Station {station} counts one garbled round."),
+            [(station, rounds)] => {
+                format!("Station {station} counts {} garbled rounds.", count((*rounds).into()))
+            }
+            some => {
+                let stations: Vec<u8> = some.iter().map(|(station, _)| *station).collect();
+                let most = some.iter().map(|(_, rounds)| *rounds).max().unwrap_or(0);
+                format!(
+                    "Stations {} count garbled rounds, {} at most.",
+                    listed(&stations),
+                    count(most.into())
+                )
+            }
+        }
+    }
+
     fn who_is_bad(&self) -> String {
         match (&self.bad[..], self.line.n()) {
             ([], _) => "No station is bad (f = 0)".to_string(),
             ([one], _) => format!("Station {one} is bad (f = 1)"),
             (all, n) if all.len() == n => format!("Every station is bad (f = {n})"),
             (some, _) => {
-                format!("Stations {} are bad (f = {})", list_text(some).replace(' ', ", "), some.len())
+                format!("Stations {} are bad (f = {})", listed(some), some.len())
             }
         }
     }
@@ -141,7 +171,7 @@ mod tests {
     fn of_nine(zeros: usize, ones: usize, flags: usize) -> Verdict {
         let bad = (1..=9 - (zeros + ones) as u8).collect();
         let line = Line::new(9, 1, 3).unwrap();
-        Verdict { line, sender: 9, sent: Some(1), bad, decide: [zeros, ones], flags }
+        Verdict { line, sender: 9, sent: Some(1), bad, decide: [zeros, ones], flags, garbled: vec![] }
     }
 
     #[test]
@@ -202,6 +232,19 @@ mod tests {
         assert_eq!(said(Some(0)), "The sender, station 9, is good and sent 0: keep the old recipe.");
         assert_eq!(said(Some(1)), "The sender, station 9, is good and sent 1: change over.");
         assert_eq!(said(None), "The sender, station 9, is bad: what it told each station is in round 1.");
+    }
+
+    #[test]
+    fn who_counts_garbled_rounds() {
+        let said = |garbled: &[(u8, u8)]| Verdict { garbled: garbled.to_vec(), ..of_nine(0, 8, 0) }.garbled();
+        assert_eq!(said(&[]), "No good station counts a garbled round.");
+        assert_eq!(said(&[(4, 1)]), "Station 4 counts one garbled round.");
+        assert_eq!(said(&[(4, 9)]), "Station 4 counts nine garbled rounds.");
+        assert_eq!(said(&[(2, 1), (3, 1)]), "Stations 2, 3 count garbled rounds, one at most.");
+        assert_eq!(
+            said(&[(2, 1), (3, 13), (4, 2), (9, 2)]),
+            "Stations 2-4, 9 count garbled rounds, 13 at most."
+        );
     }
 
     #[test]

@@ -134,7 +134,7 @@ mod tests {
     #[test]
     fn what_is_wanted() {
         let folder = Folder::new().unwrap();
-        let logged = Logged { numbers: (1, 0, 0), sender: 1, log: vec![1; 6], outcomes: vec![1, 2, 0] };
+        let logged = Logged { numbers: (1, 0, 0), sender: 1, log: vec![1; 6], outcomes: vec![1, 2, 0, 0] };
         let [log, outcomes] = folder.written(&logged).unwrap();
         let said = |text: &str| (vec![], text.to_string());
         let printed = |text: &str| (text.as_bytes().to_vec(), String::new());

@@ -1,7 +1,8 @@
 //! What an input is to each call: its first bytes the numbers, the others its row, inputs or table. Numbers that
 //! an input is too short for are 0. The lengths of lent buffers are drawn, mostly the right ones.
 
-use super::features::{bits, features, of_ballot, of_broken, of_outcomes, of_result, of_row, of_sheet};
+use super::features::{bits, features, of_ballot, of_broken, of_outcomes};
+use super::features::{of_refused, of_result, of_row, of_sheet};
 use super::pool::{Features, Shape};
 use crate::compare::lent::Lending;
 use crate::compare::report::Compared;
@@ -10,7 +11,7 @@ use crate::line::{Cause, Header, Line, Marks, SILENCE};
 use crate::logs::Logged;
 use crate::lot::Lot;
 use crate::sheet::{self, HEADER_LEN, LONGEST, RECORDS, RECORD_LEN};
-use crate::station::Station;
+use crate::station::{Station, STATION};
 
 /// An input compared, and what is told coarsely of it.
 pub struct Tried {
@@ -96,6 +97,11 @@ fn station(input: &[u8]) -> Station {
 pub fn tried(compared: Compared, n: u8, accepted: Option<Features>) -> Tried {
     let features = accepted.unwrap_or_else(|| features(&[bits(n.into())]));
     Tried { compared, features }
+}
+
+/// Of a station, if it is refused, its count beside its round too.
+fn tried_of(compared: Compared, station: &Station, accepted: Option<Features>) -> Tried {
+    Tried { compared, features: accepted.unwrap_or_else(|| of_refused(station)) }
 }
 
 /// The input as a sheet; half of the time cut to a sheet's length, and byte 5 set to zero, so that more is read
@@ -242,13 +248,13 @@ fn open(input: &[u8]) -> Tried {
 fn ballot(input: &[u8]) -> Tried {
     let station = station(input);
     let accepted = station.ballot().ok().map(|ballot| of_ballot(&station, ballot));
-    tried(stations::ballot_of(&station), station.n, accepted)
+    tried_of(stations::ballot_of(&station), &station, accepted)
 }
 
 /// A station and its row: mostly of n bytes, else what the input has.
 fn station_and_row(lot: &mut Lot, input: &[u8]) -> (Station, Vec<u8>) {
     let station = station(input);
-    let bytes = rest(input, 9);
+    let bytes = rest(input, STATION);
     let near = lines::len(lot, station.n.into());
     let len = if lot.one_in(16) { bytes.len() } else { near };
     (station, stretched(bytes, len))
@@ -257,20 +263,20 @@ fn station_and_row(lot: &mut Lot, input: &[u8]) -> (Station, Vec<u8>) {
 fn advance(lot: &mut Lot, input: &[u8]) -> Tried {
     let (station, row) = station_and_row(lot, input);
     let accepted = station.take(&row).ok().map(|next| of_row(&station, &next));
-    tried(stations::advance_by(&station, &row), station.n, accepted)
+    tried_of(stations::advance_by(&station, &row), &station, accepted)
 }
 
 fn advance_lent(lot: &mut Lot, input: &[u8]) -> Tried {
     let (station, row) = station_and_row(lot, input);
     let accepted = station.take(&row).ok().map(|next| of_row(&station, &next));
     let mut lent = Lending::holding(lot, "the station", &station.to_bytes());
-    tried(stations::advance_lent_by(&row, &mut lent), station.n, accepted)
+    tried_of(stations::advance_lent_by(&row, &mut lent), &station, accepted)
 }
 
 fn result(input: &[u8]) -> Tried {
     let station = station(input);
     let accepted = station.result().ok().map(of_result);
-    tried(stations::result_of(&station), station.n, accepted)
+    tried_of(stations::result_of(&station), &station, accepted)
 }
 
 #[cfg(test)]

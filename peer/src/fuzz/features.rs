@@ -2,6 +2,7 @@
 
 use super::pool::Features;
 use crate::line::{Header, Line, Marks, Part, SILENCE};
+use crate::outcome::{self, Outcome};
 use crate::sheet::{self, HEADER_LEN, RECORD_LEN};
 use crate::station::{Answer, Station};
 
@@ -52,12 +53,14 @@ fn beside(line: &Line, marks: Marks) -> u8 {
     exceeded(line.t()) + exceeded(line.upper())
 }
 
-/// Of an accepted run or exchange: its line, f beside the thresholds, which outcomes came.
+/// Of an accepted run or exchange: its line, f beside the thresholds, which values with which grades came, and counts of
+/// how many bits.
 pub fn of_outcomes(line: &Line, marks: Marks, outcomes: &[u8]) -> Features {
-    let kind = |outcome: &[u8]| 1 << (3 * outcome[0] + outcome[1]);
-    let good = outcomes.chunks_exact(3).filter(|outcome| outcome[0] <= 1);
-    let kinds = good.fold(0, |kinds, outcome| kinds | kind(outcome));
-    features(&[bits(line.n()), bits(line.t().into()), beside(line, marks), kinds])
+    let kind = |outcome: &Outcome| 1 << (3 * outcome.value + outcome.grade);
+    let good = || outcome::outcomes(outcomes).filter(|outcome| outcome.value <= 1);
+    let kinds = good().fold(0, |kinds, outcome| kinds | kind(&outcome));
+    let counts = good().fold(0, |counts, outcome| counts | 1 << bits(outcome.count.into()));
+    features(&[bits(line.n()), bits(line.t().into()), beside(line, marks), kinds, counts])
 }
 
 /// Of a log that is checked: its line, how many stations broke the rules, whether the sender did.
@@ -66,10 +69,16 @@ pub fn of_broken(line: &Line, sender: u8, broke: Marks) -> Features {
     features(&[bits(line.n()), bits(line.t().into()), beside(line, broke), many, broke.bad(sender).into()])
 }
 
-/// Of an accepted row: the round's part, the station before and after.
+/// Of an accepted row: the round's part, the station before and after, whether the round is counted.
 pub fn of_row(station: &Station, next: &Station) -> Features {
     let state = |s: &Station| 9 * s.value + 3 * s.z + s.grade;
-    features(&[bits(station.n.into()), part(station), state(station), state(next)])
+    let counted = next.count - station.count;
+    features(&[bits(station.n.into()), part(station), state(station), state(next), counted])
+}
+
+/// Of a station that is refused: its n, and its count beside its round.
+pub fn of_refused(station: &Station) -> Features {
+    features(&[bits(station.n.into()), (1 + station.count.cmp(&station.round) as i8) as u8])
 }
 
 /// Of an accepted ballot: the round's part, the byte.
@@ -81,7 +90,9 @@ pub fn of_ballot(station: &Station, ballot: u8) -> Features {
 pub fn of_result(answer: Answer) -> Features {
     match answer {
         Answer::Running { round } => features(&[0, bits(round.into())]),
-        Answer::Done { value, grade, flag } => features(&[1, value, grade, flag]),
+        Answer::Done(Outcome { value, grade, flag, count }) => {
+            features(&[1, value, grade, flag, bits(count.into())])
+        }
     }
 }
 
@@ -116,13 +127,20 @@ mod tests {
     }
 
     #[test]
+    fn counts_of_refused_stations() {
+        let told = |count| of_refused(&Station::from_bytes([4, 1, 1, 1, 1, 5, 2, 0, 0, count]));
+        assert_eq!([4, 5, 6].map(|count| told(count)[..2].to_vec()), [[3, 0], [3, 1], [3, 2]]);
+    }
+
+    #[test]
     fn sizes_and_outcomes() {
         assert_eq!([0, 1, 2, 3, 4, 4_096].map(bits), [0, 1, 2, 2, 3, 13]);
         let line = Line::new(4, 0, 1).unwrap();
         let told = |marks: u32, outcomes: &[u8]| of_outcomes(&line, Marks(marks), outcomes);
-        assert_eq!(told(0, &[0, 2, 0, 0, 2, 0]), [3, 0, 0, 4, 0, 0, 0, 0]);
-        assert_eq!(told(2, &[0, 0, 1, 255, 255, 255, 1, 2, 0]), [3, 0, 1, 33, 0, 0, 0, 0]);
-        assert_eq!(told(6, &[0, 0, 1, 255, 255, 255, 255, 255, 255]), [3, 0, 2, 1, 0, 0, 0, 0]);
+        let bad = [255; 4];
+        assert_eq!(told(0, &[[0, 2, 0, 0], [0, 2, 0, 0]].concat()), [3, 0, 0, 4, 1, 0, 0, 0]);
+        assert_eq!(told(2, &[[0, 0, 1, 3], bad, [1, 2, 0, 0]].concat()), [3, 0, 1, 33, 5, 0, 0, 0]);
+        assert_eq!(told(6, &[[0, 0, 1, 1], bad, bad].concat()), [3, 0, 2, 1, 2, 0, 0, 0]);
         assert_eq!(of_broken(&line, 2, Marks(0b1010)), [3, 0, 2, 2, 1, 0, 0, 0]);
         assert_eq!(of_broken(&line, 1, Marks(0b0010)), [3, 0, 1, 1, 0, 0, 0, 0]);
     }

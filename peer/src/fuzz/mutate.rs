@@ -21,7 +21,7 @@ pub fn mutate(lot: &mut Lot, input: &mut Vec<u8>, other: &[u8]) {
 }
 
 fn change(lot: &mut Lot, input: &mut Vec<u8>, other: &[u8]) {
-    match lot.below(14) {
+    match lot.below(15) {
         0 | 1 => at_one(lot, input, |lot, byte| byte ^ 1 << lot.below(8)),
         2 | 3 => at_one(lot, input, |lot, _| lot.pick(&EDGES)),
         4 => at_one(lot, input, |lot, _| lot.byte()),
@@ -32,6 +32,7 @@ fn change(lot: &mut Lot, input: &mut Vec<u8>, other: &[u8]) {
         9 => splice(lot, input, other),
         10 => input.truncate(len_within(lot, input.len())),
         11 | 12 => index(lot, input),
+        13 => at_two(lot, input),
         _ => link(lot, input),
     }
 }
@@ -47,6 +48,14 @@ fn at_one(lot: &mut Lot, input: &mut [u8], other: impl Fn(&mut Lot, u8) -> u8) {
     if !input.is_empty() {
         let place = place(lot, input.len());
         input[place] = other(lot, input[place]);
+    }
+}
+
+/// Gives a byte the content of another, as a count that is its round, or one more or less.
+fn at_two(lot: &mut Lot, input: &mut [u8]) {
+    if !input.is_empty() {
+        let (to, from) = (place(lot, input.len()), place(lot, input.len()));
+        input[to] = input[from].wrapping_add(lot.pick(&[0, 1, 255]));
     }
 }
 

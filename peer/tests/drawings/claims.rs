@@ -2,6 +2,7 @@
 
 use peer::line::Header;
 use peer::listing::Run;
+use peer::outcome::{outcome, Outcome};
 
 /// A count as the sentences write it.
 fn count(word: &str) -> usize {
@@ -14,24 +15,37 @@ fn count(word: &str) -> usize {
     }
 }
 
+/// Stations as the sentences list them.
+fn listed(words: &str) -> Vec<u8> {
+    let range = |range: &str| {
+        let (low, high) = range.split_once('-').unwrap_or((range, range));
+        low.parse::<u8>().unwrap()..=high.parse().unwrap()
+    };
+    words.split(", ").flat_map(range).collect()
+}
+
 /// What is true of a run, for the sentences to be held against.
 pub struct Truth<'a> {
     header: &'a Header,
     f: usize,
     values: Vec<u8>,
     flags: usize,
+    /// The good stations that count garbled rounds, and how many.
+    garbled: Vec<(u8, usize)>,
 }
 
 impl Truth<'_> {
     pub fn of(run: &Run) -> Truth<'_> {
         let good = |station: &u8| !run.header.marks.bad(*station);
-        let outcome = |station: u8| &run.outcomes[3 * usize::from(station) - 3..][..3];
-        let good: Vec<&[u8]> = run.line.stations().filter(good).map(outcome).collect();
+        let outcome = |station: u8| (station, outcome(&run.outcomes, station));
+        let good: Vec<(u8, Outcome)> = run.line.stations().filter(good).map(outcome).collect();
+        let counts = good.iter().map(|(station, outcome)| (*station, usize::from(outcome.count)));
         Truth {
             header: &run.header,
             f: run.header.marks.count() as usize,
-            values: good.iter().map(|outcome| outcome[0]).collect(),
-            flags: good.iter().filter(|outcome| outcome[2] == 1).count(),
+            values: good.iter().map(|(_, outcome)| outcome.value).collect(),
+            flags: good.iter().filter(|(_, outcome)| outcome.flag == 1).count(),
+            garbled: counts.filter(|(_, count)| *count > 0).collect(),
         }
     }
 
@@ -112,26 +126,45 @@ impl Truth<'_> {
         let stations: Vec<u8> = (1..=self.header.n).filter(|i| self.header.marks.bad(*i)).collect();
         let (who, f) = who.strip_suffix(')').unwrap().split_once(" (f = ").unwrap();
         assert_eq!(f, self.f.to_string());
-        let listed = match who {
+        let told = match who {
             "No station is bad" => vec![],
             "Every station is bad" => (1..=self.header.n).collect(),
             some => {
                 let some = some.trim_start_matches("Stations ").trim_start_matches("Station ");
-                let some = some.trim_end_matches(" are bad").trim_end_matches(" is bad").split(", ");
-                some.flat_map(|range| {
-                    let (low, high) = range.split_once('-').unwrap_or((range, range));
-                    low.parse::<u8>().unwrap()..=high.parse().unwrap()
-                })
-                .collect()
+                listed(some.trim_end_matches(" are bad").trim_end_matches(" is bad"))
             }
         };
-        assert_eq!(listed, stations, "`{who}`");
+        assert_eq!(told, stations, "`{who}`");
+    }
+
+    /// The sentence about garbled rounds. Gives the kind of claim.
+    pub fn check_garbled(&self, said: &str) -> &'static str {
+        let said = said.strip_suffix('.').unwrap();
+        if said == "No good station counts a garbled round" {
+            assert_eq!(self.garbled, []);
+            return "no garbled round";
+        }
+        if let Some((station, rounds)) = said.split_once(" counts ") {
+            let station = station.strip_prefix("Station ").unwrap().parse().unwrap();
+            let (rounds, plural) = rounds.split_once(" garbled round").unwrap();
+            assert_eq!(
+                (&self.garbled[..], count(rounds) > 1),
+                (&[(station, count(rounds))][..], plural == "s")
+            );
+            return "garbled rounds at one station";
+        }
+        let (stations, most) = said.split_once(" count garbled rounds, ").unwrap();
+        let (told, counts): (Vec<u8>, Vec<usize>) = self.garbled.iter().copied().unzip();
+        assert_eq!(listed(stations.strip_prefix("Stations ").unwrap()), told);
+        assert_eq!(counts.iter().max(), Some(&count(most.strip_suffix(" at most").unwrap())));
+        assert!(told.len() > 1);
+        "garbled rounds at several"
     }
 
     /// The sentence about what is promised. Gives the promise, which the outcomes must keep.
     pub fn check_promise<'w>(&self, said: &'w str) -> &'w str {
         let Header { t, upper, sender, value, marks, .. } = *self.header;
-        let (who, promised) = said.strip_suffix('.').unwrap().split_once(": ").unwrap();
+        let (who, promised) = said.split_once(": ").unwrap();
         let (who, so_many) =
             who.split_once("), ").map_or((who.to_string(), ""), |(who, so)| (format!("{who})"), so));
         self.check_bad(&who);

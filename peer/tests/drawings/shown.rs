@@ -157,6 +157,13 @@ impl<'a> Cells<'a> {
         (left..left + 10.0).contains(&text.area.0) && (top..top + self.side).contains(&middle)
     }
 
+    /// Whether a bar stands between this station's column and the strips, as wide as a cell.
+    pub fn right_below(&self, to: u8, bar: &Area) -> bool {
+        let left = self.place.0 + (f64::from(to) - 1.0) * self.side;
+        let top = self.place.1 + self.grid();
+        (bar.0, bar.2) == (left, left + self.side - 1.0) && bar.1 >= top && bar.3 <= top + 6.0
+    }
+
     /// The grid and its strips.
     pub fn area(&self) -> Area {
         let (x, y) = self.place;
@@ -172,6 +179,8 @@ pub struct Shown<'a> {
     pub cells: Vec<Cells<'a>>,
     /// The lines above the blocks of rounds.
     pub rules: Vec<Area>,
+    /// The bars of stations that count a round as garbled, the legend's too.
+    pub bars: Vec<Area>,
 }
 
 impl Shown<'_> {
@@ -183,13 +192,18 @@ impl Shown<'_> {
         alike.map(|text| text.words).collect::<Vec<_>>().join(" ")
     }
 
-    fn take(&mut self, element: &Element<'_>) {
+    fn take(&mut self, element: &Element<'_>, place: (f64, f64)) {
         let size = || (element.number("width"), element.number("height"));
         if element.tag.starts_with("svg ") {
             (self.width, self.height) = size();
-        } else if element.tag.starts_with("rect ") && size().1 == 1.0 {
-            let (x, y) = (element.number("x"), element.number("y"));
-            self.rules.push((x, y, x + size().0, y + 1.0));
+        } else if element.tag.starts_with("rect ") {
+            let (x, y) = (place.0 + element.number("x"), place.1 + element.number("y"));
+            let area = (x, y, x + size().0, y + size().1);
+            match (size().1, element.attribute("fill")) {
+                (1.0, _) => self.rules.push(area),
+                (4.0, "#cc79a7") => self.bars.push(area),
+                _ => {}
+            }
         }
     }
 }
@@ -197,7 +211,7 @@ impl Shown<'_> {
 /// Reads a drawing back.
 pub fn shown(svg: &str) -> Shown<'_> {
     let mut shown =
-        Shown { width: 0.0, height: 0.0, texts: Vec::new(), cells: Vec::new(), rules: Vec::new() };
+        Shown { width: 0.0, height: 0.0, texts: vec![], cells: vec![], rules: vec![], bars: vec![] };
     let mut groups = vec![((0.0, 0.0), false)];
     for element in elements(svg) {
         let (place, in_cells) = *groups.last().unwrap();
@@ -221,7 +235,7 @@ pub fn shown(svg: &str) -> Shown<'_> {
                 }
             }
             ("text", None) => shown.texts.push(Text::new(&element, place, false)),
-            _ => shown.take(&element),
+            _ => shown.take(&element, place),
         }
     }
     assert_eq!(groups.len(), 1);
