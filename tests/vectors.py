@@ -16,13 +16,19 @@ import tempfile
 
 import sheet as sheets
 from counting import built, closing
+from model import OUTCOME
 
 TOP = pathlib.Path(__file__).resolve().parent.parent
 VECTORS = TOP / "vectors"
 PROGRAM, REWRITE, AUDIT = PROGRAMS = [TOP / "target" / "bin" / name for name in ("agree", "rewrite", "audit")]
 LIBRARIES = "exports", "controller", "lent"
-LINE, STATION, STATE = ("n", "t", "T"), ("n", "t", "T", "sender", "own"), ("round", "value", "z", "grade")
-AROUND, WORD = 64, 2 ** 32
+LINE, STATION, STATE = ("n", "t", "T"), ("n", "t", "T", "sender", "own"), ("round", "value", "z", "grade", "count")
+AROUND = 64
+# an answer's highest byte is the refusal, the VALUES below it are what the call gives, and the fifth of them a count
+VALUES = 7
+REFUSAL, COUNT = 256 ** VALUES, 256 ** OUTCOME
+# what stands above a state where it is handed in: nobody looks at it
+ABOVE = 0xa5c33c << 8 * len(STATE)
 
 
 class Fault(Exception):
@@ -74,12 +80,12 @@ class Library:
     def __init__(self, path):
         self.calls = ctypes.CDLL(str(path))
         byte, word, size, place = ctypes.c_uint8, ctypes.c_uint32, ctypes.c_size_t, ctypes.c_void_p
-        buffer, station = [place, size], [byte] * 5
+        buffer, station, state = [place, size], [byte] * 5, [ctypes.c_uint64]
         self.declare(byte, vembopu_read=buffer * 2, vembopu_advance_lent=[place] + buffer)
         self.declare(byte, vembopu_exchange=[byte] * 3 + [word] + buffer * 3)
         self.declare(byte, vembopu_rehearse=[byte] * 5 + [word] + buffer * 3)
-        self.declare(ctypes.c_uint64, vembopu_open=station + [byte], vembopu_advance=station + [word] + buffer)
-        self.declare(ctypes.c_uint64, vembopu_ballot=station + [word], vembopu_result=station + [word])
+        self.declare(ctypes.c_uint64, vembopu_open=station + [byte], vembopu_advance=station + state + buffer)
+        self.declare(ctypes.c_uint64, vembopu_ballot=station + state, vembopu_result=station + state)
         self.declare(ctypes.c_uint64, vembopu_sheet_len=buffer * 2, vembopu_write=buffer * 3, vembopu_check=[byte] * 4 + buffer * 2)
 
     def declare(self, answer, **calls):
@@ -131,11 +137,11 @@ def read(library, args):
 def write(library, args):
     """The sheet. The bytes that it needs are told beforehand as the model has them, and how many records it has afterwards."""
     inputs, sheet = given(args, "header", "table"), lent(args, "sheet")
-    told, wanted = divmod(library.call("vembopu_sheet_len", *inputs), WORD), sheets.needed(*(buffer.content() for buffer in inputs))
+    told, wanted = divmod(library.call("vembopu_sheet_len", *inputs), REFUSAL), sheets.needed(*(buffer.content() for buffer in inputs))
     answer(told[0], inputs, [])
     if told != wanted:
         raise Fault(f"vembopu_sheet_len answers {told}, wanted is {wanted}")
-    refused, records = divmod(library.call("vembopu_write", *inputs, *sheet), WORD)
+    refused, records = divmod(library.call("vembopu_write", *inputs, *sheet), REFUSAL)
     if records != (0 if refused else (sheet[0].size - sheets.HEADER) // sheets.RECORD):
         raise Fault(f"vembopu_write answers {refused} and {records} records")
     return answer(refused, inputs, sheet)
@@ -155,7 +161,7 @@ def rehearse(library, args):
 
 def check(library, args):
     numbers, inputs = [args[name] for name in (*LINE, "sender")], given(args, "log", "outcomes")
-    refused, marks = divmod(library.call("vembopu_check", *numbers, *inputs), WORD)
+    refused, marks = divmod(library.call("vembopu_check", *numbers, *inputs), REFUSAL)
     if refused and marks:
         raise Fault(f"vembopu_check: {marks} with a refusal")
     return answer(refused, inputs, []) or {"marks": marks}
@@ -167,9 +173,9 @@ class Station:
     def __init__(self, library, numbers, state):
         self.library, self.numbers, self.state = library, numbers, state
 
-    def asked(self, name):
+    def asked(self, name, above=ABOVE):
         """Refusal and values of a call on numbers; a refusal has no values."""
-        refused, values = divmod(self.library.call(name, *self.numbers, self.state), WORD)
+        refused, values = divmod(self.library.call(name, *self.numbers, self.state + above), REFUSAL)
         if refused and values:
             raise Fault(f"{name}: {values} with a refusal")
         return refused, values
@@ -182,23 +188,26 @@ class Station:
         refused, values = self.asked("vembopu_result")
         if refused:
             return {"refused": refused}
-        done, *rest = values.to_bytes(4, "little")
-        return {"done": rest} if done == 1 else {"running": values >> 8} if done == 0 else values
+        done, *rest = values.to_bytes(VALUES, "little")
+        outcome, above = rest[:OUTCOME], rest[OUTCOME:]
+        return {"running": values >> 8} if done == 0 else {"done": outcome} if done == 1 and not any(above) else values
 
-    def nine_bytes(self):
-        return bytes(self.numbers) + self.state.to_bytes(4, "little")
+    def in_bytes(self):
+        return bytes(self.numbers) + self.state.to_bytes(len(STATE), "little")
 
     def take(self, row):
-        """The refusal's number, 0 where the row is taken, by the call on numbers and by the one on nine bytes."""
-        row, nine = Buffer("row", row), Buffer("station", self.nine_bytes(), sized=False)
-        refused, after = divmod(self.library.call("vembopu_advance", *self.numbers, self.state, row), WORD)
-        number = self.library.call("vembopu_advance_lent", nine, row)
-        answer(refused, [row], [nine])
+        """The refusal's number, 0 where the row is taken, by the call on numbers and by the one on a lent station."""
+        row, lent_one = Buffer("row", row), Buffer("station", self.in_bytes(), sized=False)
+        refused, after = divmod(self.library.call("vembopu_advance", *self.numbers, self.state + ABOVE, row), REFUSAL)
+        number = self.library.call("vembopu_advance_lent", lent_one, row)
+        answer(refused, [row], [lent_one])
         if refused and after != self.state:
             raise Fault("another state with a refused row")
+        if after >= ABOVE & -ABOVE:
+            raise Fault(f"vembopu_advance: {after:#x} is no state")
         self.state = after
-        if (number, nine.content()) != (refused, self.nine_bytes()):
-            raise Fault(f"the lent station answers {number} and is {nine.content().hex()}, not {refused} and {self.nine_bytes().hex()}")
+        if (number, lent_one.content()) != (refused, self.in_bytes()):
+            raise Fault(f"the lent station answers {number} and is {lent_one.content().hex()}, not {refused} and {self.in_bytes().hex()}")
         return refused
 
 
@@ -210,7 +219,7 @@ def step(station, row):
 def station(library, args):
     numbers = [args[name] for name in STATION]
     one = Station(library, numbers, args["value"])
-    refused, state = one.asked("vembopu_open")
+    refused, state = one.asked("vembopu_open", above=0)
     if refused:
         return {"refused": refused}
     one.state = state
@@ -304,11 +313,27 @@ def audit_fault(program, vector):
 
 
 def rehearsed(calls):
-    """A check of the log and the outcomes of each rehearsal: it yields the marks."""
+    """A check of the log and the outcomes of each rehearsal: it yields the marks; with one station's count another, that station too."""
     for place, vector in calls:
         if vector["call"] == "rehearse" and "refused" not in vector["want"]:
             args = {name: vector["args"][name] for name in (*LINE, "sender")} | vector["want"]
-            yield f"{place}, checked", {"call": "check", "args": args, "want": {"marks": vector["args"]["marks"]}}
+            marks = vector["args"]["marks"]
+            yield f"{place}, checked", {"call": "check", "args": args, "want": {"marks": marks}}
+            for station in unmarked(args["outcomes"])[:1]:
+                args = args | {"outcomes": miscounted(args["outcomes"], station)}
+                yield f"{place}, miscounted", {"call": "check", "args": args, "want": {"marks": marks | 1 << station}}
+
+
+def unmarked(outcomes):
+    """The stations, from 0, whose outcome isn't a bad one's."""
+    return [station for station, value in enumerate(bytes.fromhex(outcomes)[::OUTCOME]) if value != 255]
+
+
+def miscounted(outcomes, station):
+    """The outcomes with one round more in this station's count, and nothing else changed."""
+    changed = bytearray.fromhex(outcomes)
+    changed[OUTCOME * station + OUTCOME - 1] += 1
+    return changed.hex()
 
 
 # ---- the test of the test
@@ -365,6 +390,23 @@ class Answering:
         return self.library.call(name, *arguments) + (self.more if name == self.name else 0)
 
 
+class Miscounting:
+    """A library that gets one count wrong and nothing else: that of a done result, and that of an unmarked station's outcome."""
+
+    def __init__(self, library):
+        self.library = library
+
+    def call(self, name, *arguments):
+        number = self.library.call(name, *arguments)
+        if name == "vembopu_result" and number < REFUSAL and number % 256 == 1:
+            return number + COUNT
+        if number == 0 and name in ("vembopu_exchange", "vembopu_rehearse"):
+            outcomes = arguments[-1]
+            changed = miscounted(outcomes.content().hex(), unmarked(outcomes.content().hex())[0])
+            outcomes.held[AROUND:AROUND + outcomes.size] = bytes.fromhex(changed)
+        return number
+
+
 BUFFERS = {
     "read": {"vembopu_read": 2}, "write": {"vembopu_sheet_len": 2, "vembopu_write": 3}, "exchange": {"vembopu_exchange": 3}, "rehearse": {"vembopu_rehearse": 3},
     "check": {"vembopu_check": 2},
@@ -372,8 +414,10 @@ BUFFERS = {
 }
 
 ANSWERS = {
-    "write": (("vembopu_sheet_len", 8), ("vembopu_sheet_len", WORD), ("vembopu_write", 1), ("vembopu_write", WORD)),
-    "check": (("vembopu_check", 1), ("vembopu_check", WORD)),
+    "write": (("vembopu_sheet_len", 8), ("vembopu_sheet_len", REFUSAL), ("vembopu_write", 1), ("vembopu_write", REFUSAL)),
+    "check": (("vembopu_check", 1), ("vembopu_check", REFUSAL)),
+    "station": (("vembopu_open", REFUSAL), ("vembopu_ballot", COUNT), ("vembopu_result", 256 * COUNT), ("vembopu_advance", COUNT), ("vembopu_advance", 256 * COUNT)),
+    "station_state": (("vembopu_ballot", REFUSAL), ("vembopu_result", REFUSAL), ("vembopu_advance", REFUSAL), ("vembopu_advance_lent", 1)),
 }
 
 
@@ -389,6 +433,14 @@ def samples(vectors):
     """One vector of each call that is accepted, and one that is refused."""
     kinds = {(vector["call"], "refused" in vector["want"]): vector for vector in reversed(vectors) if vector["args"].get("rows") != []}
     return list(kinds.values())
+
+
+def counting(vectors):
+    """The vectors whose answer has the count of a station."""
+    has_count = {
+        "exchange": lambda want: unmarked(want["outcomes"]), "rehearse": lambda want: unmarked(want["outcomes"]), "station": lambda want: "done" in want["result"],
+    }
+    return [vector for vector in vectors if vector["call"] in has_count and "refused" not in vector["want"] and has_count[vector["call"]](vector["want"])]
 
 
 def told(vectors, fault):
@@ -411,7 +463,10 @@ def own_checks(library, calls, listings):
             for what, writing in writings(library, vector):
                 yield f"{name}: {what}", call_fault(writing, vector) is not None
         for call, more in ANSWERS.get(vector["call"], ()):
-            yield f"{name}: {call} with {more} more", call_fault(Answering(library, call, more), vector) is not None
+            if vector["call"] != "station" or "refused" not in vector["want"] or call == "vembopu_open":
+                yield f"{name}: {call} with {more} more", call_fault(Answering(library, call, more), vector) is not None
+    for vector in counting(calls):
+        yield f"{vector['call']}: a wrong count is told", call_fault(Miscounting(library), vector) is not None
     for vector in listings[:3]:
         wrongs = [planted(vector, ("listing",)), {**vector, "listing": vector["listing"] + "\n"}, {**vector, "listing": ""}]
         yield "a wrong listing is told", told(wrongs, lambda one: listing_fault(PROGRAM, one)) == 3
@@ -474,7 +529,7 @@ def checks(library):
     faults += [(f"{place}, rewritten", rewrite_fault(library, rewrite, vector)) for place, vector in again]
     count = collections.Counter(vector["call"] for _, vector in calls)
     print(f"{len(calls)} calls ({', '.join(f'{name} {number}' for name, number in count.items())}), {len(listings)} listings, {len(again)} sheets rewritten, "
-          f"{len(audits)} logs checked, {len(logs)} of them rehearsed")
+          f"{len(audits)} logs checked, {len(logs)} of them rehearsed or miscounted")
     for place, fault in faults:
         yield f"vectors/{place}: {fault}", fault is None
     yield from own_checks(library, [vector for _, vector in calls], [vector for _, vector in listings])
