@@ -207,26 +207,32 @@ fn opening() {
     assert!([0, 2, 3, 4, 5].iter().all(|&cause: &usize| seen[cause] > 20), "{seen:?}");
 }
 
+/// A station whose bytes are often near the edge of what is allowed.
+fn edge_station(lot: &mut Lot) -> Station {
+    let (n, t, upper) = lot.edge_numbers();
+    let sender = lot.pick(&[1, 1, 1, n, n, 0, n.wrapping_add(1)]);
+    let own = lot.pick(&[1, 1, 1, n, n, 0, n.wrapping_add(1)]);
+    let last = t.wrapping_mul(3).wrapping_add(6);
+    let round = lot.pick(&[0, 1, 2, 3, 4, last, last.wrapping_add(1), last.wrapping_add(2)]);
+    let (value, z) = (lot.pick(&[0, 1, 1, 2]), lot.pick(&[0, 1, 2, 2, 3]));
+    let grade = lot.pick(&[0, 1, 2, 2, 3]);
+    let count = match lot.below(6) {
+        0 => lot.pick(&[round, round.wrapping_add(1), 255]),
+        1 => round.wrapping_sub(1),
+        _ => lot.below(u64::from(round.max(1))) as u8,
+    };
+    Station::from_bytes([n, t, upper, sender, own, round, value, z, grade, count])
+}
+
 #[test]
 fn station_states() {
     let mut lot = Lot(4);
-    let mut seen = [0; 14];
-    // how often a count isn't below its round, with another cause and alone
-    let mut by_count = [0; 2];
+    // by_count: how often a count that isn't below its round stands with another cause, and alone
+    let (mut seen, mut by_count) = ([0; 14], [0; 2]);
     for _ in 0..60_000 {
-        let (n, t, upper) = lot.edge_numbers();
-        let sender = lot.pick(&[1, 1, 1, n, n, 0, n.wrapping_add(1)]);
-        let own = lot.pick(&[1, 1, 1, n, n, 0, n.wrapping_add(1)]);
+        let station = edge_station(&mut lot);
+        let Station { n, t, upper, sender, own, round, value, z, grade, count } = station;
         let last = t.wrapping_mul(3).wrapping_add(6);
-        let round = lot.pick(&[0, 1, 2, 3, 4, last, last.wrapping_add(1), last.wrapping_add(2)]);
-        let (value, z) = (lot.pick(&[0, 1, 1, 2]), lot.pick(&[0, 1, 2, 2, 3]));
-        let grade = lot.pick(&[0, 1, 2, 2, 3]);
-        let count = match lot.below(6) {
-            0 => lot.pick(&[round, round.wrapping_add(1), 255]),
-            1 => round.wrapping_sub(1),
-            _ => lot.below(u64::from(round.max(1))) as u8,
-        };
-        let station = Station::from_bytes([n, t, upper, sender, own, round, value, z, grade, count]);
         let done = round == last.wrapping_add(1);
         let row = vec![1; lot.near(usize::from(n))];
         let mut causes = vec![
@@ -240,7 +246,7 @@ fn station_states() {
         let whole = lowest(&causes);
         assert_eq!(code(station.result()), whole, "{station:?}");
         if whole == 0 {
-            assert_eq!(matches!(station.result().unwrap(), Answer::Done { .. }), done);
+            assert_eq!(matches!(station.result().unwrap(), Answer::Done(_)), done);
         }
         causes.push((7, done));
         assert_eq!(code(station.ballot()), lowest(&causes), "{station:?}");

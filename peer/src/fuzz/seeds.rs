@@ -1,8 +1,8 @@
-//! What a fuzz begins with: nothing, a header of zeros, and the sheets of `examples/`.
+//! What a fuzz begins with: nothing, a header of zeros, and sheets of `examples/`.
 
 use crate::sheet::HEADER_LEN;
 
-pub const SEEDS: [&[u8]; 8] = [
+pub const SEEDS: [&[u8]; 9] = [
     &[],
     &[0; HEADER_LEN],
     include_bytes!("../../../examples/a.sheet"),
@@ -10,5 +10,6 @@ pub const SEEDS: [&[u8]; 8] = [
     include_bytes!("../../../examples/c.sheet"),
     include_bytes!("../../../examples/d.sheet"),
     include_bytes!("../../../examples/d-bad.sheet"),
+    include_bytes!("../../../examples/garbled.sheet"),
     include_bytes!("../../../examples/large.sheet"),
 ];
