@@ -27,8 +27,9 @@ AROUND = 64
 # an answer's highest byte is the refusal, the VALUES below it are what the call gives, and the fifth of them a count
 VALUES = 7
 REFUSAL, COUNT = 256 ** VALUES, 256 ** OUTCOME
-# what stands above a state where it is handed in: nobody looks at it
-ABOVE = 0xa5c33c << 8 * len(STATE)
+# a state is below STATES; what stands above it where it is handed in nobody looks at
+STATES = 256 ** len(STATE)
+ABOVE = 0xa5c33c * STATES
 
 
 class Fault(Exception):
@@ -203,7 +204,7 @@ class Station:
         answer(refused, [row], [lent_one])
         if refused and after != self.state:
             raise Fault("another state with a refused row")
-        if after >= ABOVE & -ABOVE:
+        if after >= STATES:
             raise Fault(f"vembopu_advance: {after:#x} is no state")
         self.state = after
         if (number, lent_one.content()) != (refused, self.in_bytes()):
@@ -416,7 +417,7 @@ BUFFERS = {
 ANSWERS = {
     "write": (("vembopu_sheet_len", 8), ("vembopu_sheet_len", REFUSAL), ("vembopu_write", 1), ("vembopu_write", REFUSAL)),
     "check": (("vembopu_check", 1), ("vembopu_check", REFUSAL)),
-    "station": (("vembopu_open", REFUSAL), ("vembopu_ballot", COUNT), ("vembopu_result", 256 * COUNT), ("vembopu_advance", COUNT), ("vembopu_advance", 256 * COUNT)),
+    "station": (("vembopu_open", REFUSAL), ("vembopu_ballot", COUNT), ("vembopu_result", STATES), ("vembopu_advance", COUNT), ("vembopu_advance", STATES)),
     "station_state": (("vembopu_ballot", REFUSAL), ("vembopu_result", REFUSAL), ("vembopu_advance", REFUSAL), ("vembopu_advance_lent", 1)),
 }
 
