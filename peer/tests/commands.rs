@@ -217,6 +217,10 @@ fn commands_that_are_not_built() {
     assert_eq!(peer(&["bench"], &[]), (2, vec![], said));
 }
 
+/// So many turns of a fuzz that each of the programs is given some inputs.
+#[cfg(feature = "verified")]
+const FUZZED: &str = "1000";
+
 /// Seed 7 and so many turns of a command that compares fourteen calls: all pass, without a difference.
 #[cfg(feature = "verified")]
 fn finds_no_difference(command: &str, turns: &str) {
@@ -242,7 +246,7 @@ fn comparing() {
 #[cfg(feature = "verified")]
 #[test]
 fn fuzzing() {
-    finds_no_difference("fuzz", "300");
+    finds_no_difference("fuzz", FUZZED);
     for words in [&["fuzz", "x"][..], &["fuzz", "1", "2m"], &["fuzz", "1", "1", "a", "b", "c", "d"]] {
         assert_eq!(peer(words, &[]).0, 2);
     }
@@ -265,7 +269,7 @@ fn programs(file: &str) -> [(Vec<&str>, &'static str); 3] {
 fn fuzzing_a_wrong_program() {
     let wrong = env!("CARGO_BIN_EXE_peer");
     for (words, name) in programs(wrong) {
-        let (status, printed, said) = peer(&[&["fuzz", "7", "300"], &words[..]].concat(), &[]);
+        let (status, printed, said) = peer(&[&["fuzz", "7", FUZZED], &words[..]].concat(), &[]);
         let printed = String::from_utf8(printed).unwrap();
         assert!(status == 1 && printed.ends_with(" inputs with a difference\n13 passed, 1 failed\n"));
         let exit = format!("{name}: exit status: 2, on standard error ");
