@@ -6,7 +6,7 @@ use mathlib.Core.Bool.{Bool, true, false, _&&_}
 use mathlib.Core.List.{List}
 use native.Mathlib.Omega.{arith}
 use lib.Dec.{eqb, ltb}
-use borrow.Author.Tests.{lt-ltb, le-ltb}
+use borrow.Author.Tests.{lt-ltb, le-ltb, le-leb, lt-leb}
 use lib.ListN.{length, getD, set, replicate, getD-replicate}
 use lib.Seq.{getD-set-other}
 use Rattle.line.specs.Count.{if_then_else_, count}
@@ -14,7 +14,7 @@ use Rattle.line.specs.Line.{has-round}
 use Rattle.line.specs.Writing.{Each}
 use Rattle.line.proofs.CountLaws.{if-true, count-zero, count-le, count-hit, count-miss}
 use Rattle.line.proofs.WritingLaws.{zeros}
-use Rattle.column.specs.Column.{column, counted, count-of, sent-by, each-of, byte-to, hit, more, AtMost, Rest}
+use Rattle.column.specs.Column.{column, counted, count-of, sent-by, block-at, each-of, byte-to, hit, more, AtMost, Rest}
 
 pub rest-all : (l : List ℕ) → Rest 0 l l
 unfolding Rest
@@ -109,3 +109,17 @@ module _ (n : ℕ) (bytes : List ℕ) (start i : ℕ) where
   pub sent-no-station : n ≤ i → Each n (replicate 32 0) (sent-by n bytes start i)
   unfolding sent-by Each
   sent-no-station h j k = rw (le-ltb i n h) (zeros 32 j)
+
+-- ---- a block of 32
+
+pub block-there : (bytes : List ℕ) (a j : ℕ) → a + 32 ≤ length bytes → block-at bytes a j ≡ getD bytes (a + j) 0
+unfolding block-at
+block-there bytes a j h = rw (le-leb (a + 32) (length bytes) h)
+
+pub block-whole : (bytes l : List ℕ) (a : ℕ) → a + 32 ≤ length bytes → Each 32 l (byte-to bytes a) → Each 32 l (block-at bytes a)
+unfolding Each byte-to
+block-whole bytes l a h each j k = each j k ∙ sym (block-there bytes a j h)
+
+pub block-short : (bytes : List ℕ) (a : ℕ) → length bytes < a + 32 → Each 32 (replicate 32 0) (block-at bytes a)
+unfolding Each block-at
+block-short bytes a h j k = zeros 32 j ∙ sym (rw (lt-leb (a + 32) (length bytes) h))

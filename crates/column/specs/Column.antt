@@ -3,7 +3,7 @@ use Prim.Native.Nat.{ℕ, _+_, _*_, _≤_, _<_}
 use mathlib.Core.Path.{_≡_}
 use mathlib.Core.List.{List}
 use mathlib.Core.Bool.{_&&_}
-use lib.Dec.{eqb, ltb}
+use lib.Dec.{eqb, ltb, leb}
 use lib.ListN.{length, getD}
 use Rattle.line.specs.Count.{if_then_else_, count}
 use Rattle.line.specs.Line.{has-round}
@@ -27,6 +27,10 @@ count-of n bytes start wanted j = if has-round n start (length bytes) then count
 -- the byte from station i to j, 0 where the bytes have no such round or the line no such station
 unfoldable pub sent-by : ℕ → List ℕ → ℕ → ℕ → ℕ → ℕ
 sent-by n bytes start i j = if ltb i n && has-round n start (length bytes) then column bytes start n j i else 0
+
+-- byte j of the 32 from a on, 0 where there are fewer
+unfoldable pub block-at : List ℕ → ℕ → ℕ → ℕ
+block-at bytes a j = if leb (a + 32) (length bytes) then getD bytes (a + j) 0 else 0
 
 -- ---- for private functions
 

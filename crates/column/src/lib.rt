@@ -3,7 +3,7 @@ ghost use mathlib.Core.Path.{_≡_};
 ghost use Prim.Native.Nat.{_+_, _-_, _*_, _≤_, _<_};
 ghost use lib.ListN.{length};
 ghost use Rattle.line.specs.Writing.{Each};
-ghost use Rattle.column.specs.Column.{AtMost, each-of, byte-to, hit, more, counted, count-of, sent-by};
+ghost use Rattle.column.specs.Column.{AtMost, each-of, byte-to, hit, more, counted, count-of, sent-by, block-at};
 use line::Line;
 
 // The first n bytes of one sender to all.
@@ -129,6 +129,18 @@ pub fn sent_by(line: Line, bytes: &[u8], start: usize, i: u8) -> [u8; 32]
         if line.has_round(start, bytes.len()) {
             let n = line.n as usize;
             return row(bytes, start + (i as usize) * n, n);
+        }
+    }
+    [0u8; 32]
+}
+
+// The 32 bytes from a place on; 0 where there are fewer.
+pub fn block(bytes: &[u8], at: usize) -> [u8; 32]
+    ensures { λ r. ⌜ Each 32 r (block-at (now (bytes .entry)) at) ⌝ }
+{
+    if at <= bytes.len() {
+        if 32 <= bytes.len() - at {
+            return heard(bytes, at, 32);
         }
     }
     [0u8; 32]

@@ -1,18 +1,18 @@
 -- Laws of what is found, sender by sender. Assumes nothing.
-use Prim.Native.Nat.{ℕ, suc, _+_, _≤_, _<_}
+use Prim.Native.Nat.{ℕ, zero, suc, _+_, _≤_, _<_}
 use mathlib.Core.Path.{_≡_, refl, sym, ap, _∙_}
-use mathlib.Core.Bool.{Bool, true, false, _&&_}
+use mathlib.Core.Bool.{Bool, true, false, not, _&&_, _||_}
 use mathlib.Core.List.{List}
 use native.Mathlib.Omega.{arith}
 use native.Mathlib.Numerals.{add-one}
-use lib.Dec.{ltb}
+use lib.Dec.{ltb, eqb}
 use lib.ListN.{length, getD, replicate}
-use borrow.Author.Tests.{lt-ltb}
+use borrow.Author.Tests.{ltb-true, ltb-false, lt-ltb, le-ltb}
 use lib.Pow.{pow-pos}
 use Rattle.line.specs.Count.{if_then_else_, count}
 use Rattle.line.specs.Line.{has-round}
 use Rattle.line.specs.Marks.{marked}
-use Rattle.line.specs.Ballot.{is-garbled}
+use Rattle.line.specs.Ballot.{blank, silence, is-garbled}
 use Rattle.line.specs.Writing.{Each}
 use Rattle.line.proofs.CountLaws.{count-same, count-none}
 use Rattle.line.proofs.BallotLaws.{garbled-sender, garbled-first, garbled-second, garbled-king}
@@ -30,50 +30,85 @@ use Rattle.step.specs.declared.Part.the-variants.{Sender, First, Second, King}
 use Rattle.step.specs.Part.{as-part, of-part}
 use Rattle.step.specs.Noted.{noted}
 use Rattle.step.proofs.StepLaws.{speaks-as, reading-as, noted-low}
-use Rattle.garbled.specs.Found.{from, some-of, found, above, noise, Adds}
+use Rattle.garbled.specs.Found.{from, some-of, found, above, but-silence, higher, with-row, highest}
 
--- the bound tells what the reading does
-noise-is : (p : Part) (b : ℕ) → noise (above p) b ≡ is-garbled (reading (of-part p) b)
-unfolding noise above reading
-noise-is Sender b = sym (garbled-sender b)
-noise-is First b = sym (garbled-first b)
-noise-is Second b = sym (garbled-second b)
-noise-is (King p) b = sym (garbled-king b)
+-- ---- by the highest byte
+
+nothing-above : (bound : ℕ) → ltb bound 0 ≡ false
+nothing-above bound = le-ltb bound 0 (omega arith)
+
+beyond : (bound b : ℕ) → ltb bound (but-silence b) ≡ (ltb bound b && not (eqb b silence))
+unfolding but-silence
+beyond bound b = go (eqb b silence) (ltb bound b) refl
+  where
+    go : (c d : Bool) → ltb bound b ≡ d → ltb bound (if c then 0 else b) ≡ (d && not c)
+    go true true e = nothing-above bound
+    go true false e = nothing-above bound
+    go false true e = e
+    go false false e = e
+
+higher-above : (bound a b : ℕ) → ltb bound (higher a b) ≡ (ltb bound a || ltb bound b)
+unfolding higher
+higher-above bound a b = go (ltb a b) (ltb bound a) refl refl
+  where
+    go : (c d : Bool) → ltb a b ≡ c → ltb bound a ≡ d → ltb bound (if c then b else a) ≡ (d || ltb bound b)
+    go true true e f = let l : bound < b = omega (arith, ltb-true a b e, ltb-true bound a f) in lt-ltb bound b l
+    go true false e f = refl
+    go false true e f = f
+    go false false e f = let l : b ≤ bound = omega (arith, ltb-false a b e, ltb-false bound a f) in f ∙ sym (le-ltb bound b l)
+
+-- a byte is above the bound, silence as 0, exactly if its reading is garbled
+noise-is : (p : Part) (b : ℕ) → ltb (above p) (but-silence b) ≡ is-garbled (reading (of-part p) b)
+unfolding above reading
+noise-is Sender b = beyond 1 b ∙ sym (garbled-sender b)
+noise-is First b = beyond 1 b ∙ sym (garbled-first b)
+noise-is Second b = beyond blank b ∙ sym (garbled-second b)
+noise-is (King p) b = beyond 1 b ∙ sym (garbled-king b)
+
+-- one byte more, of a sender who is looked at or not
+one-more : (p : Part) (c : Bool) (top b k : ℕ) → ltb (above p) top ≡ ltb 0 k
+    → ltb (above p) (if c then higher top (but-silence b) else top) ≡ ltb 0 ((if c && is-garbled (reading (of-part p) b) then 1 else 0) + k)
+one-more p c top b k e = go c
+  where
+    plain : 0 + k ≡ k
+    plain = omega arith
+
+    counted : (g d : Bool) → ltb 0 k ≡ d → (d || g) ≡ ltb 0 ((if g then 1 else 0) + k)
+    counted true true f = sym (lt-ltb 0 (1 + k) (omega arith))
+    counted true false f = sym (lt-ltb 0 (1 + k) (omega arith))
+    counted false true f = sym (ap (ltb 0) plain ∙ f)
+    counted false false f = sym (ap (ltb 0) plain ∙ f)
+
+    go : (c : Bool) → ltb (above p) (if c then higher top (but-silence b) else top) ≡ ltb 0 ((if c && is-garbled (reading (of-part p) b) then 1 else 0) + k)
+    go true = higher-above (above p) top (but-silence b) ∙ rw (e, noise-is p b) (counted (is-garbled (reading (of-part p) b)) (ltb 0 k) refl)
+    go false = e ∙ sym (ap (ltb 0) plain)
 
 module _ (n senders sender : ℕ) (p : Part) (bytes : List ℕ) (start : ℕ) where
   -- of none
-  pub none-of : Each n (replicate 32 0) (some-of n senders sender p bytes start 0)
+  pub none-of : Each n (replicate 32 0) (highest n senders sender p bytes start 0)
+  unfolding Each highest
+  none-of j h = zeros 32 j
+
+  -- one sender more
+  pub row-added : (m : ℕ) (l l′ : List ℕ) (row : ℕ → ℕ) → ((j : ℕ) → j < n → row j ≡ column bytes start n j m)
+      → Each n l (highest n senders sender p bytes start m) → Each n l′ (with-row senders sender p m l row)
+      → Each n l′ (highest n senders sender p bytes start (m + 1))
+  unfolding Each with-row highest
+  row-added m l l′ row is before now j h = now j h ∙ rw (add-one m, before j h, is j h)
+
+  -- the highest of the first m is above the bound exactly if one of them is garbled
+  highest-tells : (m j : ℕ) → ltb (above p) (highest n senders sender p bytes start m j)
+      ≡ ltb 0 (garbled-ballots m (from senders sender p) (of-part p) (column bytes start n j))
+  unfolding highest
+  highest-tells zero j = nothing-above (above p) ∙ rw (garbled-none (from senders sender p) (of-part p) (column bytes start n j))
+  highest-tells (suc m) j =
+      rw (← add-one m, garbled-next (from senders sender p) (of-part p) (column bytes start n j) m)
+      (one-more p (from senders sender p m) (highest n senders sender p bytes start m j) (column bytes start n j m) _ (highest-tells m j))
+
+  pub tells : (l l′ : List ℕ) (bound : ℕ) → n ≤ 32 → bound ≡ above p → Each n l (highest n senders sender p bytes start n)
+      → Each 32 l′ (λ j. if ltb bound (getD l j 0) then 1 else 0) → Each n l′ (some-of n senders sender p bytes start n)
   unfolding Each some-of
-  none-of j h = rw (garbled-none (from senders sender p) (of-part p) (column bytes start n j)) (zeros 32 j)
-
-  -- one sender more, who is looked at or not
-  one-more : (m j : ℕ) (c g : Bool) → from senders sender p m ≡ c → is-garbled (reading (of-part p) (column bytes start n j m)) ≡ g
-      → some-of n senders sender p bytes start (suc m) j ≡ (if c && g then 1 else some-of n senders sender p bytes start m j)
-  unfolding some-of
-  one-more m j c g a b = rw (← add-one m, garbled-next (from senders sender p) (of-part p) (column bytes start n j) m, a, b) (go (c && g))
-    where
-      k : ℕ
-      k = garbled-ballots m (from senders sender p) (of-part p) (column bytes start n j)
-
-      zero-plus : 0 + k ≡ k
-      zero-plus = omega arith
-
-      go : (d : Bool) → _≡_ {A = ℕ} (if ltb 0 ((if d then 1 else 0) + k) then 1 else 0) (if d then 1 else (if ltb 0 k then 1 else 0))
-      go true = rw (lt-ltb 0 (1 + k) (omega arith))
-      go false = ap (λ (q : ℕ). if ltb 0 q then 1 else 0) zero-plus
-
-  pub looked : (m : ℕ) (l l′ row : List ℕ) → has-round n start (length bytes) ≡ true → m < n → from senders sender p m ≡ true
-      → Each n row (sent-by n bytes start m)
-      → (bound : ℕ) → bound ≡ above p → Each 32 l′ (λ j. if noise bound (getD row j 0) then 1 else getD l j 0) → Adds n senders sender p bytes start m l l′
-  unfolding Each Adds
-  looked m l l′ row room few a is bound b now before j h =
-      let most = round-means n start (length bytes) room .0 in
-      let e = is j h ∙ sent-there n bytes start m few room j in
-      now j (omega arith) ∙ rw (b, before j h, e, noise-is p (column bytes start n j m)) (sym (one-more m j true _ a refl))
-
-  pub skipped : (m : ℕ) (l : List ℕ) → from senders sender p m ≡ false → Adds n senders sender p bytes start m l l
-  unfolding Each Adds
-  skipped m l a before j h = before j h ∙ sym (one-more m j false _ a refl)
+  tells l l′ bound most e before now j h = now j (omega arith) ∙ rw (e, before j h, highest-tells n j)
 
 -- ---- with and without room, and with nobody to look at
 

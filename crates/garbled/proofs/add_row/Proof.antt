@@ -4,19 +4,17 @@ use native.Mathlib.Omega.{arith}
 use Prim.Native.Nat.{_≤_, _-_}
 use mathlib.Core.Path.{_≡_, refl}
 use lib.ListN.{length, getD, length-set}
-use Rattle.line.specs.Count.{if_then_else_}
 use Rattle.line.specs.Writing.{Each}
 use Rattle.line.proofs.WritingLaws.{each-none, each-turn}
-use Rattle.garbled.specs.Found.{noise}
+use Rattle.garbled.specs.Found.{but-silence, higher}
 use Rattle.garbled.proofs.add_row.Statement.{statement}
 use Rattle.garbled.proofs.add_row.Tie as tie
 
 abbrev Inv-loop : tie.InvT-loop
-Inv-loop bound found row next₀ j₀ next j =
-    (j ≤ 32) × (length next ≡ 32) × Each j next (λ k. if noise bound (getD row k 0) then 1 else getD found k 0)
+Inv-loop top row next₀ j₀ next j = (j ≤ 32) × (length next ≡ 32) × Each j next (λ k. higher (getD top k 0) (but-silence (getD row k 0)))
 
 abbrev μ-loop : tie.MeasureT-loop
-μ-loop bound found row next₀ j₀ next j = 32 - j
+μ-loop top row next₀ j₀ next j = 32 - j
 
 loop-holds : tie.Need-loop-holds Inv-loop μ-loop
 loop-holds c = (omega arith, refl, each-none _ _)
@@ -24,14 +22,17 @@ loop-holds c = (omega arith, refl, each-none _ _)
 cast-k : tie.Need-cast-k Inv-loop μ-loop
 cast-k c = search needs
 
-array-read-either : tie.Need-array-read-either Inv-loop μ-loop
-array-read-either c = search needs
+array-read-but-silence : tie.Need-array-read-but-silence Inv-loop μ-loop
+array-read-but-silence c = search needs
 
-array-read-either-2 : tie.Need-array-read-either-2 Inv-loop μ-loop
-array-read-either-2 c = search needs
+but-silence-requires : tie.Need-but-silence-requires Inv-loop μ-loop
+but-silence-requires c κs = search needs
 
-either-requires : tie.Need-either-requires Inv-loop μ-loop
-either-requires c κs = search needs
+array-read-higher : tie.Need-array-read-higher Inv-loop μ-loop
+array-read-higher c = search needs
+
+higher-requires : tie.Need-higher-requires Inv-loop μ-loop
+higher-requires c κs = search needs
 
 array-write-next : tie.Need-array-write-next Inv-loop μ-loop
 array-write-next c = search needs
@@ -44,8 +45,8 @@ loop-less c = search needs
 
 loop-again : tie.Need-loop-again Inv-loop μ-loop
 loop-again c =
-    let a = c .before .before in
-    (omega arith, simp length-set (a .loop .inv .1), each-turn (a .loop .next) _ (a .loop .j) _ (omega (arith, a .loop .inv .1)) (a .loop .inv .2) (c .either .ensures))
+    let a = c .before .before .before in
+    (omega arith, simp length-set (a .loop .inv .1), each-turn (a .loop .next) _ (a .loop .j) _ (omega (arith, a .loop .inv .1)) (a .loop .inv .2) (rw (← c .before .but-silence .ensures) (c .higher .ensures)))
 
 returns : tie.Need-returns Inv-loop μ-loop
 returns c =
@@ -61,9 +62,10 @@ add-row-spec =
     μ-loop
     loop-holds
     cast-k
-    array-read-either
-    array-read-either-2
-    either-requires
+    array-read-higher
+    array-read-but-silence
+    but-silence-requires
+    higher-requires
     array-write-next
     add-j
     loop-less

@@ -1,56 +1,59 @@
--- `all_senders` meets its contract. The loop's invariant: what is found of the first i senders.
+-- `all_senders` meets its contract, either way.
 use borrow.Author.Needs.{needs}
-use Prim.Native.Nat.{_≤_, _-_}
-use mathlib.Core.Path.{_≡_}
 use native.Mathlib.Omega.{arith}
-use native.Mathlib.Numerals.{add-one}
-use Rattle.line.specs.Writing.{Each}
-use Rattle.garbled.specs.Found.{some-of, Adds}
-use Rattle.garbled.proofs.FoundLaws.{none-of}
+use lib.ListN.{length}
+use Rattle.line.proofs.LineLaws.{product-fits, round-means}
 use Rattle.garbled.proofs.all_senders.Statement.{statement}
 use Rattle.garbled.proofs.all_senders.Tie as tie
 
-abbrev Inv-loop : tie.InvT-loop
-Inv-loop line senders sender part bytes start found₀ i₀ found i = (i ≤ line .n) × Each (line .n) found (some-of (line .n) senders sender part bytes start i)
+cast-n : tie.Need-cast-n
+cast-n c = search needs
 
-abbrev μ-loop : tie.MeasureT-loop
-μ-loop line senders sender part bytes start found₀ i₀ found i = line .n - i
+sub-if1 : tie.Need-sub-if1
+sub-if1 c =
+    let s = c .before .before in
+    omega (arith, round-means (s .args .line .n) (s .args .start) (length (s .args .bytes .now)) (s .pre) .0)
 
-loop-holds : tie.Need-loop-holds Inv-loop μ-loop
-loop-holds c =
-    let g = c .before .args in
-    (omega arith, none-of (g .line .n) (g .senders) (g .sender) (g .part) (g .bytes .now) (g .start))
+sub-if1-2 : tie.Need-sub-if1-2
+sub-if1-2 c =
+    let s = c .before .before in
+    omega (arith, round-means (s .args .line .n) (s .args .start) (length (s .args .bytes .now)) (s .pre) .1)
 
-with-sender-requires : tie.Need-with-sender-requires Inv-loop μ-loop
-with-sender-requires c κs = search needs
+mul-if1 : tie.Need-mul-if1
+mul-if1 c = product-fits {p = 255} {q = 255} (omega arith) (omega arith) tt
 
-add-i : tie.Need-add-i Inv-loop μ-loop
-add-i c = search needs
+sub-if1-3 : tie.Need-sub-if1-3
+sub-if1-3 c =
+    let s = c .before .before in
+    omega (arith, round-means (s .args .line .n) (s .args .start) (length (s .args .bytes .now)) (s .pre) .1)
 
-loop-less : tie.Need-loop-less Inv-loop μ-loop
-loop-less c = search needs
+wide-requires : tie.Need-wide-requires
+wide-requires c κs =
+    let s = c .before .before .before in
+    let room = round-means (s .args .line .n) (s .args .start) (length (s .args .bytes .now)) (s .pre) in
+    (room .0, omega (arith, room .0, room .1))
 
-loop-again : tie.Need-loop-again Inv-loop μ-loop
-unfolding Adds
-loop-again c =
-    let a = c .before .before .before in
-    (omega arith, rw (add-one (a .loop .i)) (c .with-sender .ensures (a .loop .inv .1)))
+narrow-requires : tie.Need-narrow-requires
+narrow-requires c κs =
+    let s = c .before .before .before in
+    round-means (s .args .line .n) (s .args .start) (length (s .args .bytes .now)) (s .pre)
 
-returns : tie.Need-returns Inv-loop μ-loop
-returns c =
-    let a = c .before .before in
-    let e : a .loop .i ≡ a .before .before .args .line .n = omega arith in
-    rw e at (a .loop .inv .1)
+returns : tie.Need-returns
+returns c = c .wide .ensures
+
+returns-2 : tie.Need-returns-2
+returns-2 c = c .narrow .ensures
 
 pub all-senders-spec : {M : Type 1} → statement M
 all-senders-spec =
     tie.close
     (tie.spec
-    Inv-loop
-    μ-loop
-    loop-holds
-    with-sender-requires
-    add-i
-    loop-less
-    loop-again
-    returns)
+    cast-n
+    sub-if1
+    sub-if1-2
+    mul-if1
+    sub-if1-3
+    wide-requires
+    narrow-requires
+    returns
+    returns-2)
