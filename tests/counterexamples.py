@@ -41,6 +41,9 @@ EDITED = {
     "all_speak_in_round_1": edited(speaks=lambda kind, i, one: kind != KING or i == one),
     "alone_flag_from_y": edited(flag_alone=lambda y, g: 1 if y < 2 else 0),
     "bad_outcome_shown": edited(bad_outcome=(0,) * OUTCOME),
+    "last_round_not_counted": edited(counted_rounds=lambda rounds: range(rounds)),
+    "round_counted_twice": edited(counted=lambda garbled, some: garbled + 2 * some),
+    "bystander_counted": edited(expects=lambda kind, speaks: True),
 }
 
 
@@ -201,6 +204,7 @@ KEEPING = {
     "any_byte_for_a_value": edited(Keeping, values=range(256)),
     "last_receiver_not_compared": edited(Keeping, receivers=lambda n: range(n - 1)),
     "flag_not_compared": edited(Keeping, ends=lambda result, outcome: result[:2] + result[3:] == outcome[:2] + outcome[3:]),
+    "count_not_compared": edited(Keeping, ends=lambda result, outcome: result[:3] == outcome[:3]),
     "sender_from_0": edited(Keeping, sender=lambda sender: sender + 1),
     "sender_excused": edited(Keeping, excused=lambda own, sender: own == sender),
 }
