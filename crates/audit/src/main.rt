@@ -64,8 +64,8 @@ fn read(i: usize, buf: &mut [u8]) -> Input
 
 // Reads both files. One byte more than the longest tells that a file is longer.
 fn audit(line: Line, sender: u8) {
-    let mut log = [0u8; 36865];
-    let mut outcomes = [0u8; 129];
+    let mut log = [0u8; Line::LARGEST_TABLE + 1];
+    let mut outcomes = [0u8; Line::LARGEST_OUTCOMES + 1];
     let Input::Bytes(log_len) = read(5, &mut log) else {
         return;
     };
