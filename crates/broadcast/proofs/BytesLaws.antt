@@ -4,7 +4,6 @@ use mathlib.Core.Path.{_≡_, refl, sym, ap, _∙_}
 use mathlib.Core.Bool.{Bool, true, false}
 use mathlib.Core.List.{List}
 use native.Mathlib.Omega.{arith}
-use lib.Dec.{eqb}
 use lib.ListN.{length, getD}
 use Rattle.line.specs.Count.{if_then_else_}
 use Rattle.line.specs.Line.{Fits, from-0, rounds, table-length, outcome-size, outcomes-length, place}

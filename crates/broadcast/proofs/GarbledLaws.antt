@@ -1,25 +1,20 @@
 -- What is garbled in a run: nothing that a good station sends where it is expected; and a good station's count is that of the log's bytes. Assumes nothing.
-use Prim.Native.Nat.{ℕ, suc, _+_, _≤_, _<_}
+use Prim.Native.Nat.{ℕ, suc, _≤_, _<_}
 use mathlib.Core.Path.{_≡_, refl, sym, ap, _∙_}
 use mathlib.Core.Bool.{Bool, true, false, _&&_}
 use native.Mathlib.Omega.{arith}
 use lib.Dec.{ltb}
 use borrow.Author.Tests.{le-ltb}
-use Rattle.line.specs.Count.{count}
-use Rattle.line.specs.Line.{from-0, rounds, place}
-use Rattle.line.specs.Marks.{marked}
+use Rattle.line.specs.Line.{from-0, rounds}
 use Rattle.line.specs.Ballot.{is-garbled}
 use Rattle.line.proofs.CountLaws.{count-same, count-none}
 use Rattle.line.proofs.BallotLaws.{bit-at-sender, bit-at-first, blank-at-second, bit-at-king}
-use Rattle.broadcast.specs.Exchange.{Setting, sends}
-use Rattle.broadcast.specs.Broadcast.{first-round, x-after, z-after, y-after, part, speaks, spoken, said, sent}
+use Rattle.broadcast.specs.Exchange.{Setting}
+use Rattle.broadcast.specs.Broadcast.{part, speaks, spoken, said, sent}
 use Rattle.broadcast.specs.Garbled.{reading, garbled-ballots, some-garbled, received, garbled-in, garbled-rounds}
-use Rattle.broadcast.specs.Station.{at}
-use Rattle.broadcast.specs.Bytes.{setting, Run, setting-of, log, outcomes, column}
-use Rattle.broadcast.specs.Guarantees.{Good}
-use Rattle.broadcast.specs.Theorems.{garbled-at, Good-ballots-readable, None-marked-none-garbled, Count-by-log}
-use Rattle.broadcast.proofs.TallyLaws.{z-bound}
-use Rattle.broadcast.proofs.ExchangeLaws.{good-sends, y-is-bit}
+use Rattle.broadcast.specs.Bytes.{setting, setting-of, log, outcomes}
+use Rattle.broadcast.specs.Theorems.{Good-ballots-readable, None-marked-none-garbled, Count-by-log}
+use Rattle.broadcast.proofs.ExchangeLaws.{good-sends}
 use Rattle.broadcast.proofs.PartLaws.{part-sender, part-first, part-second, part-king, by-parts}
 use Rattle.broadcast.proofs.RowLaws.{some-same}
 use Rattle.broadcast.proofs.BroadcastLaws.{x-after-bit, y-after-bit, z-after-bound}

@@ -9,22 +9,20 @@ use lib.Dec.{ltb, eqb}
 use lib.ListN.{length, getD, replicate}
 use borrow.Author.Tests.{ltb-true, ltb-false, lt-ltb, le-ltb}
 use lib.Pow.{pow-pos}
-use Rattle.line.specs.Count.{if_then_else_, count}
+use Rattle.line.specs.Count.{if_then_else_}
 use Rattle.line.specs.Line.{has-round}
 use Rattle.line.specs.Marks.{marked}
 use Rattle.line.specs.Ballot.{blank, silence, is-garbled}
 use Rattle.line.specs.Writing.{Each}
 use Rattle.line.proofs.CountLaws.{count-same, count-none}
 use Rattle.line.proofs.BallotLaws.{garbled-sender, garbled-first, garbled-second, garbled-king}
-use Rattle.line.proofs.LineLaws.{round-means}
 use Rattle.line.proofs.MarksLaws.{marked-above}
 use Rattle.line.proofs.WritingLaws.{zeros}
 use Rattle.broadcast.specs.Broadcast.{speaks}
 use Rattle.broadcast.specs.Broadcast as broadcast
 use Rattle.broadcast.specs.Garbled.{reading, garbled-ballots, some-garbled}
 use Rattle.broadcast.proofs.RowLaws.{garbled-none, garbled-next}
-use Rattle.column.specs.Column.{column, sent-by}
-use Rattle.column.proofs.ColumnLaws.{sent-there}
+use Rattle.column.specs.Column.{column}
 use Rattle.step.specs.declared.Part.{Part}
 use Rattle.step.specs.declared.Part.the-variants.{Sender, First, Second, King}
 use Rattle.step.specs.Part.{as-part, of-part}

@@ -1,6 +1,5 @@
 -- `row` meets its contract: the first n of 32 are those n.
 use borrow.Author.Needs.{needs}
-use native.Mathlib.Omega.{arith}
 use Rattle.line.proofs.WritingLaws.{each-fewer}
 use Rattle.column.specs.Column.{byte-to}
 use Rattle.column.proofs.row.Statement.{statement}

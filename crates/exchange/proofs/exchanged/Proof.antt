@@ -1,7 +1,6 @@
 -- `exchanged` meets its contract: the two rounds, one after the other.
 use borrow.Author.Needs.{needs}
 use mathlib.Core.Path.{refl}
-use Rattle.line.specs.Writing.{Each}
 use Rattle.line.proofs.WritingLaws.{zeros}
 use Rattle.exchange.proofs.ExchangeLaws.{graded}
 use Rattle.exchange.proofs.exchanged.Statement.{statement}

@@ -4,7 +4,7 @@ use Prim.Native.Nat.{_+_, _*_, _≤_, _-_}
 use mathlib.Core.Path.{_≡_, refl}
 use native.Mathlib.Omega.{arith}
 use native.Mathlib.Nat.{zero-mul}
-use lib.ListN.{length, getD}
+use lib.ListN.{getD}
 use Rattle.line.specs.Writing.{Each}
 use Rattle.line.proofs.LineLaws.{next-row, row-within}
 use Rattle.column.specs.Column.{column}

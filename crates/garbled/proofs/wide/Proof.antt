@@ -4,7 +4,6 @@ use Prim.Native.Nat.{_+_, _*_, _≤_, _-_}
 use mathlib.Core.Path.{_≡_}
 use native.Mathlib.Omega.{arith}
 use native.Mathlib.Nat.{zero-mul}
-use lib.ListN.{length, getD}
 use Rattle.line.specs.Writing.{Each}
 use Rattle.line.proofs.LineLaws.{next-row, row-within}
 use Rattle.line.proofs.WritingLaws.{each-fewer}

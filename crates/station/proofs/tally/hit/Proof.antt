@@ -1,6 +1,6 @@
 -- `tally::hit` meets its contract.
 use borrow.Author.Needs.{needs}
-use mathlib.Core.Path.{sym, ap, _∙_}
+use mathlib.Core.Path.{sym, _∙_}
 use borrow.Author.Tests.{eq-eqb, ne-eqb}
 use Rattle.station.proofs.tally.hit.Statement.{statement}
 use Rattle.station.proofs.tally.hit.Tie as tie
