@@ -9,17 +9,17 @@
 #include "exports.h"
 #include "inputs.h"
 
-enum { READ, SHEET_LEN, WRITE, REHEARSE, CHECK, EXCHANGE };
+enum { READ, READ_BIT, SHEET_LEN, WRITE, REHEARSE, CHECK, EXCHANGE };
 enum { BUFFERS = 3, UNWRITTEN = 170 };
 
-static const char *const call_name[] = {"vembopu_read",     "vembopu_sheet_len", "vembopu_write",
-                                        "vembopu_rehearse", "vembopu_check",     "vembopu_exchange"};
-static const int buffers[] = {2, 2, 3, 3, 2, 3};
+static const char *const call_name[] = {"vembopu_read",     "vembopu_read_bit", "vembopu_sheet_len", "vembopu_write",
+                                        "vembopu_rehearse", "vembopu_check",    "vembopu_exchange"};
+static const int buffers[] = {2, 2, 2, 3, 3, 2, 3};
 
 /* One call. The content of a buffer that the call writes is NULL. */
 struct trial {
     int call;
-    uint8_t n, t, T, sender, value;
+    uint8_t n, t, T, sender, value, w, bit;
     uint32_t marks;
     const uint8_t *content[BUFFERS];
     size_t len[BUFFERS];
@@ -27,20 +27,23 @@ struct trial {
 };
 
 static struct guarded area[BUFFERS];
-static uint8_t sheet[SHEET + RECORD], table[TABLE], ballots[TABLE], inputs[INPUTS], written[BUFFERS][TABLE];
+static uint8_t sheet[SHEET + RECORD], table[TABLES], ballots[TABLES], inputs[INPUTS], written[BUFFERS][TABLES];
+static uint8_t all_bits[TABLES]; /* the last tables that vembopu_read has written */
 
 static int run(const struct trial *x, uint8_t *const at[])
 {
     switch (x->call) {
     case READ:
         return vembopu_read(at[0], x->len[0], at[1], x->len[1]);
+    case READ_BIT:
+        return vembopu_read_bit(at[0], x->len[0], x->bit, at[1], x->len[1]);
     case SHEET_LEN:
         return (int)vembopu_refusal(vembopu_sheet_len(at[0], x->len[0], at[1], x->len[1]));
     case WRITE:
         return (int)vembopu_refusal(vembopu_write(at[0], x->len[0], at[1], x->len[1], at[2], x->len[2]));
     case REHEARSE:
-        return vembopu_rehearse(x->n, x->t, x->T, x->sender, x->value, x->marks, at[0], x->len[0], at[1], x->len[1],
-                                at[2], x->len[2]);
+        return vembopu_rehearse(x->n, x->t, x->T, x->sender, x->value, x->w, x->marks, at[0], x->len[0], at[1],
+                                x->len[1], at[2], x->len[2]);
     case CHECK:
         return (int)vembopu_refusal(vembopu_check(x->n, x->t, x->T, x->sender, at[0], x->len[0], at[1], x->len[1]));
     default:
@@ -119,12 +122,15 @@ static void with_null(const struct trial *accepted, int which, int number)
 static void nulls(const struct trial *accepted)
 {
     struct trial low = *accepted;
-    int by_1 = accepted->call == READ || accepted->call == SHEET_LEN || accepted->call == WRITE;
+    int by_1 = accepted->call < REHEARSE;
     for (int which = 1; which < 1 << buffers[accepted->call]; which++)
         with_null(accepted, which, by_1 && which & 1 ? 1 : 8);
     low.n = 0;
     if (!by_1)
         with_null(&low, 7, 2);
+    low.w = 9;
+    if (accepted->call == REHEARSE)
+        with_null(&low, 7, 15);
 }
 
 /* ---- The trials ---- */
@@ -137,21 +143,46 @@ static void try_one(const struct trial *x)
         nulls(x);
 }
 
+/* All bits of a sheet. */
+static void sheet_read(const struct read_input *in)
+{
+    size_t len = make_sheet(sheet, in->w, in->k) + in->more;
+    sheet[in->at] = in->byte;
+    struct trial x = {.call = READ, .content = {sheet}, .len = {len, in->table_len}, .number = in->number};
+    try_one(&x);
+    memcpy(all_bits, written[1], TABLES);
+}
+
+/* One bit of it, or one that it hasn't: what is written is that bit's part. */
+static void bit_read(const struct read_input *in, uint8_t bit)
+{
+    size_t len = make_sheet(sheet, in->w, in->k) + in->more;
+    sheet[in->at] = in->byte;
+    struct trial x = {.call = READ_BIT, .bit = bit, .content = {sheet}, .len = {len, table_of_bit(in)},
+                      .number = number_of_bit(in, bit)};
+    try_one(&x);
+    if (x.number == 0)
+        check(memcmp(written[1], all_bits + (size_t)bit * TABLE, TABLE) == 0, "w %d: bit %d is another part", in->w,
+              bit);
+}
+
 static void sheets(void)
 {
     for (size_t i = 0; i < COUNT(read_inputs); i++) {
         const struct read_input *in = &read_inputs[i];
-        size_t len = make_sheet(sheet, in->k) + in->more;
-        sheet[in->at] = in->byte;
-        struct trial x = {.call = READ, .content = {sheet}, .len = {len, in->table_len}, .number = in->number};
-        try_one(&x);
+        int bits = vembopu_bits(in->w);
+        sheet_read(in);
+        for (int bit = 0; bit < bits && bit < VEMBOPU_MOST_BITS; bit++)
+            bit_read(in, (uint8_t)bit);
+        bit_read(in, (uint8_t)bits);
+        bit_read(in, 255);
     }
 }
 
-/* 1 if the last sheet that was written is the one whose table was handed in. */
-static int as_made(size_t k)
+/* 1 if the last sheet that was written is the one whose tables were handed in. */
+static int as_made(uint8_t w, size_t k)
 {
-    size_t len = make_sheet(sheet, k);
+    size_t len = make_sheet(sheet, w, k);
     return memcmp(written[2], sheet, len) == 0;
 }
 
@@ -159,8 +190,8 @@ static void writings(void)
 {
     for (size_t i = 0; i < COUNT(write_inputs); i++) {
         const struct write_input *in = &write_inputs[i];
-        make_sheet(sheet, in->k > 0);
-        make_table(table, in->k);
+        make_sheet(sheet, in->w, in->k > 0);
+        make_table(table, in->w, in->k);
         sheet[in->at] = in->byte;
         struct trial x = {.call = WRITE, .content = {sheet, table},
                           .len = {in->header_len, in->table_len, in->sheet_len}, .number = in->number};
@@ -170,7 +201,8 @@ static void writings(void)
         x.number = refused_by_sheet(in) ? 0 : in->number;
         try_one(&x);
         if (in->number == 0)
-            check(as_made(in->k), "vembopu_write: another sheet of %lu records", (unsigned long)in->k);
+            check(as_made(in->w, in->k), "vembopu_write: another sheet of w %d, %lu records", in->w,
+                  (unsigned long)in->k);
     }
 }
 
@@ -178,8 +210,8 @@ static void writings(void)
 static void null_and_too_many(void)
 {
     struct trial x = {.call = WRITE, .content = {sheet, table}, .len = {HEADER, TABLE, SHEET}};
-    make_sheet(sheet, 0);
-    make_table(table, MOST_RECORDS + 1);
+    make_sheet(sheet, 0, 0);
+    make_table(table, 0, MOST_RECORDS + 1);
     with_null(&x, 4, 14);
 }
 
@@ -188,7 +220,7 @@ static void rehearsals(void)
     for (size_t i = 0; i < COUNT(rehearse_inputs); i++) {
         const struct rehearse_input *in = &rehearse_inputs[i];
         struct trial x = {.call = REHEARSE, .n = in->n, .t = in->t, .T = in->T, .sender = in->sender,
-                          .value = in->value, .marks = in->marks, .content = {ballots},
+                          .value = in->value, .w = in->w, .marks = in->marks, .content = {ballots},
                           .len = {in->table_len, in->log_len, in->outcomes_len}, .number = in->number};
         try_one(&x);
     }
@@ -221,8 +253,8 @@ static void exchanges(void)
 int main(void)
 {
     for (int k = 0; k < BUFFERS; k++)
-        area[k] = guarded_pages(TABLE);
-    for (size_t i = 0; i < TABLE; i++)
+        area[k] = guarded_pages(TABLES);
+    for (size_t i = 0; i < TABLES; i++)
         ballots[i] = (uint8_t)draw(4);
     for (size_t i = 0; i < INPUTS; i++)
         inputs[i] = (uint8_t)draw(2);

@@ -12,7 +12,7 @@
 #include "inputs.h"
 #include "model.h"
 
-enum { BLOCK = 1000, BLOCKS = 12, NUMBERS = 15, SMALL = 5 };
+enum { BLOCK = 1000, BLOCKS = 12, NUMBERS = 16, SMALL = 5 };
 
 /* ---- One call ---- */
 
@@ -59,7 +59,7 @@ static void rehearse(struct draft *d, int n, int t, int T, int sender, int value
     size_t log_len = (size_t)(rounds(t) * n * n), outcomes_len = (size_t)(VEMBOPU_OUTCOME * n);
     struct checking k = {n, t, T, sender, d->log, log_len, d->outcomes, outcomes_len};
     d->k = k;
-    vembopu_rehearse((uint8_t)n, (uint8_t)t, (uint8_t)T, (uint8_t)sender, (uint8_t)value, marks, table, k.log_len,
+    vembopu_rehearse((uint8_t)n, (uint8_t)t, (uint8_t)T, (uint8_t)sender, (uint8_t)value, 1, marks, table, k.log_len,
                      d->log, k.log_len, d->outcomes, k.outcomes_len);
 }
 

@@ -3,8 +3,8 @@
  * in each round, done with each value, grade and count, every ballot, sheets of
  * few and of many records, logs of which none, one and all broke the rules; as
  * the library answers, and with any bytes below a refusal. Then a state and a
- * station made of each other, the number of rounds, the state of a refused open,
- * and the version.
+ * station made of each other, the number of rounds, the bits of every width, who
+ * is bad by an outcome, the state of a refused open, and the version.
  */
 #define _DEFAULT_SOURCE
 #include "check.h"
@@ -16,7 +16,7 @@
 #error "the version's numbers are for #if too"
 #endif
 
-enum { NONE = 255, MOST_T = 10, MOST_ROUNDS = 36, NUMBERS = 15 };
+enum { NONE = 255, MOST_T = 10, MOST_ROUNDS = 36, NUMBERS = 16 };
 
 /* What the helpers make of an answer, but for the state. */
 struct parts {
@@ -183,13 +183,13 @@ static void zero(void)
 
 /* ---- The writer ---- */
 
-static uint8_t header[HEADER], table[TABLE], sheet[SHEET], logged[TABLE];
+static uint8_t header[HEADER], table[TABLES], sheet[SHEET], logged[TABLES];
 
 /* The bytes needed and the records of a table that has so many. */
 static void sheet_of(uint32_t k)
 {
     uint32_t bytes = HEADER + RECORD * k;
-    make_table(table, k);
+    make_table(table, 0, k);
     uint64_t len = vembopu_sheet_len(header, HEADER, table, TABLE);
     uint64_t made = vembopu_write(header, HEADER, table, TABLE, sheet, bytes);
     check(vembopu_refusal(len) == 0 && vembopu_needed_bytes(len) == bytes, "%u records: the bytes", k);
@@ -201,11 +201,11 @@ static void sheet_of(uint32_t k)
 static void sheets(void)
 {
     static const uint32_t some[] = {0, 1, 2, 255, 256, 257, 1000, MOST_RECORDS - 1, MOST_RECORDS};
-    make_sheet(sheet, 0);
+    make_sheet(sheet, 0, 0);
     memcpy(header, sheet, HEADER);
     for (size_t i = 0; i < COUNT(some); i++)
         sheet_of(some[i]);
-    make_table(table, MOST_RECORDS + 1);
+    make_table(table, 0, MOST_RECORDS + 1);
     check(held_refused(vembopu_sheet_len(header, HEADER, table, TABLE), 14), "the bytes of too many");
     check(held_refused(vembopu_write(header, HEADER, table, TABLE, sheet, SHEET), 14), "too many");
 }
@@ -216,8 +216,8 @@ static void sheets(void)
 static void broke(uint32_t marks)
 {
     uint8_t outcomes[OUTCOMES];
-    make_table(table, 0);
-    vembopu_rehearse(32, 10, 10, 1, 1, marks, table, TABLE, logged, TABLE, outcomes, OUTCOMES);
+    make_table(table, 0, 0);
+    vembopu_rehearse(32, 10, 10, 1, 1, 0, marks, table, TABLE, logged, TABLE, outcomes, OUTCOMES);
     uint64_t a = vembopu_check(32, 10, 10, 1, logged, TABLE, outcomes, OUTCOMES);
     check(vembopu_refusal(a) == 0 && vembopu_broke(a) == marks, "%08x broke the rules: %llx", marks,
           (unsigned long long)a);
@@ -231,6 +231,46 @@ static void sets(void)
     for (int i = 0; i < 32; i++)
         broke((uint32_t)1 << i);
     broke(0xffffffffu);
+}
+
+/* ---- Numbers ---- */
+
+/* Every width: the bits, and that a table of so many is what the call takes. */
+static void widths(void)
+{
+    uint8_t outcome[VEMBOPU_OUTCOME];
+    check(VEMBOPU_LARGEST_TABLE == 36 * 32 * 32 && VEMBOPU_LARGEST_TABLES == 8 * 36 * 32 * 32, "the largest tables");
+    check(VEMBOPU_MOST_BITS == 8, "the most bits");
+    for (int w = 0; w < 256; w++) {
+        int bits = vembopu_bits((uint8_t)w);
+        size_t len = 6 * (size_t)bits;
+        check(bits == (w == 0 ? 1 : w), "w %d: %d bits", w, bits);
+        int number = vembopu_rehearse(1, 0, 0, 1, 0, (uint8_t)w, 0, table, len, logged, len, outcome, sizeof outcome);
+        check(number == (w > 8 ? 15 : 0), "w %d: %d", w, number);
+    }
+}
+
+/* Good stations that decide 255, and one beside them that is bad. */
+static void bad_by_grade(void)
+{
+    uint8_t outcomes[4 * VEMBOPU_OUTCOME];
+    make_table(table, 0, 0);
+    int number = vembopu_rehearse(4, 1, 1, 1, 255, 8, 8, table, 8 * 144, logged, 8 * 144, outcomes, sizeof outcomes);
+    check(number == 0, "255 of eight bits: %d", number);
+    for (int i = 0; i < 4; i++) {
+        const uint8_t *outcome = outcomes + VEMBOPU_OUTCOME * i;
+        check(outcome[0] == 255 && vembopu_is_bad(outcome) == (i == 3), "station %d: %d, bad %d", i + 1, outcome[0],
+              vembopu_is_bad(outcome));
+    }
+}
+
+/* Any value with any grade that a good station can have. */
+static void good_by_grade(void)
+{
+    for (int i = 0; i < 3 * 256; i++) {
+        const uint8_t outcome[VEMBOPU_OUTCOME] = {(uint8_t)(i / 3), (uint8_t)(i % 3), i % 3 < 2, 255};
+        check(!vembopu_is_bad(outcome), "value %d, grade %d is bad", i / 3, i % 3);
+    }
 }
 
 /* ---- A state and a station ---- */
@@ -309,6 +349,9 @@ int main(void)
     zero();
     sheets();
     sets();
+    widths();
+    bad_by_grade();
+    good_by_grade();
     states();
     after_refused_open();
     number_of_rounds();

@@ -216,7 +216,7 @@ static void open_all(const struct line *l)
 static int as_rehearsed(const struct line *l)
 {
     size_t len = (size_t)vembopu_rounds(l->t) * l->n * l->n;
-    int same = vembopu_rehearse(l->n, l->t, l->T, l->sender, l->value, l->marks, table, len, logged, len, outcomes,
+    int same = vembopu_rehearse(l->n, l->t, l->T, l->sender, l->value, 1, l->marks, table, len, logged, len, outcomes,
                                 (size_t)VEMBOPU_OUTCOME * l->n) == 0;
     for (int i = 1; i <= l->n; i++) {
         uint64_t a = result_of(&station[i]);

@@ -2,8 +2,8 @@
  * The calls whose instructions tests/instructions counts, all on a line of 32
  * stations with t = T = 10. Without an argument: a line for each, with the
  * call's name, what it is given, and over how many of what its instructions
- * are spread. With the number of a line: makes that call once, and ends with
- * its refusal number, 0 if accepted.
+ * are spread. With the number of a line: makes that call once, or eight times
+ * for eight bits, and ends with its refusal number, 0 if accepted.
  */
 #include "exports.h"
 #include "inputs.h"
@@ -11,13 +11,29 @@
 #include <stdio.h>
 #include <stdlib.h>
 
-static uint8_t header[HEADER], sheet[SHEET], table[TABLE], logged[TABLE], outcomes[OUTCOMES], row[INPUTS];
+static uint8_t header[HEADER], sheet[SHEET], table[TABLES], logged[TABLES], outcomes[OUTCOMES], row[INPUTS];
 
 /* ---- By marks, or by the number of records ---- */
 
 static uint32_t rehearse(uint32_t marks)
 {
-    return vembopu_rehearse(32, 10, 10, 1, 1, marks, table, TABLE, logged, TABLE, outcomes, OUTCOMES);
+    return vembopu_rehearse(32, 10, 10, 1, 1, 1, marks, table, TABLE, logged, TABLE, outcomes, OUTCOMES);
+}
+
+/* A number of eight bits. */
+static uint32_t rehearse_number(uint32_t marks)
+{
+    return vembopu_rehearse(32, 10, 10, 1, 255, 8, marks, table, TABLES, logged, TABLES, outcomes, OUTCOMES);
+}
+
+/* The same bits, each rehearsed alone. */
+static uint32_t rehearse_bits(uint32_t marks)
+{
+    uint32_t refused = 0;
+    for (size_t b = 0; b < 8; b++)
+        refused |= vembopu_rehearse(32, 10, 10, 1, 1, 1, marks, table + b * TABLE, TABLE, logged + b * TABLE, TABLE,
+                                    outcomes, OUTCOMES);
+    return refused;
 }
 
 /* The log of a rehearsal: the marked stations are those that broke the rules. */
@@ -34,8 +50,21 @@ static uint32_t exchange(uint32_t marks)
 
 static uint32_t read_sheet(uint32_t k)
 {
-    size_t len = make_sheet(sheet, k);
+    size_t len = make_sheet(sheet, 1, k);
     return vembopu_read(sheet, len, table, TABLE);
+}
+
+/* All of eight bits, and the last of them. */
+static uint32_t read_number(uint32_t k)
+{
+    size_t len = make_sheet(sheet, 8, k);
+    return vembopu_read(sheet, len, table, TABLES);
+}
+
+static uint32_t read_bit(uint32_t k)
+{
+    size_t len = make_sheet(sheet, 8, k);
+    return vembopu_read_bit(sheet, len, 7, table, TABLE);
 }
 
 enum { NONE_MARKED = 0xffff };
@@ -46,7 +75,7 @@ enum { NONE_MARKED = 0xffff };
 static size_t make_writing(uint32_t k)
 {
     uint32_t left = k;
-    make_sheet(sheet, 0);
+    make_sheet(sheet, 1, 0);
     memcpy(header, sheet, HEADER);
     memset(header + 8, 0, 4);
     header[8] = k == NONE_MARKED ? 0 : 0xff;
@@ -132,6 +161,12 @@ static const struct {
     {"vembopu_rehearse", "none marked", TABLE, "ballot", rehearse, 0},
     {"vembopu_rehearse", "10 marked", TABLE, "ballot", rehearse, 0x3ffu},
     {"vembopu_rehearse", "32 marked", TABLE, "ballot", rehearse, 0xffffffffu},
+    {"vembopu_rehearse", "none marked, eight bits", TABLES, "ballot", rehearse_number, 0},
+    {"vembopu_rehearse", "none marked, eight times one bit", TABLES, "ballot", rehearse_bits, 0},
+    {"vembopu_rehearse", "10 marked, eight bits", TABLES, "ballot", rehearse_number, 0x3ffu},
+    {"vembopu_rehearse", "10 marked, eight times one bit", TABLES, "ballot", rehearse_bits, 0x3ffu},
+    {"vembopu_rehearse", "32 marked, eight bits", TABLES, "ballot", rehearse_number, 0xffffffffu},
+    {"vembopu_rehearse", "32 marked, eight times one bit", TABLES, "ballot", rehearse_bits, 0xffffffffu},
     {"vembopu_check", "none marked", TABLE, "ballot", check_log, 0},
     {"vembopu_check", "10 marked", TABLE, "ballot", check_log, 0x3ffu},
     {"vembopu_check", "32 marked", TABLE, "ballot", check_log, 0xffffffffu},
@@ -142,6 +177,10 @@ static const struct {
     {"vembopu_read", "1,024 records", 1024, "record", read_sheet, 1024},
     {"vembopu_read", "2,048 records", 2048, "record", read_sheet, 2048},
     {"vembopu_read", "4,096 records", 4096, "record", read_sheet, 4096},
+    {"vembopu_read", "eight bits, no record", 0, "record", read_number, 0},
+    {"vembopu_read", "eight bits, 4,096 records", 4096, "record", read_number, 4096},
+    {"vembopu_read_bit", "one of eight, no record", 0, "record", read_bit, 0},
+    {"vembopu_read_bit", "one of eight, 4,096 records", 4096, "record", read_bit, 4096},
     {"vembopu_sheet_len", "none marked", TABLE, "byte", sheet_len, NONE_MARKED},
     {"vembopu_sheet_len", "10 marked, no record", TABLE, "byte", sheet_len, 0},
     {"vembopu_sheet_len", "10 marked, 4,096 records", TABLE, "byte", sheet_len, 4096},

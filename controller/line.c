@@ -1,9 +1,10 @@
 /*
- * Whole lines of stations, each good station in a process of its own. This
- * process is the wire: each round it collects one ballot from every good
- * station, takes the bad stations' bytes from a table, and hands each good
- * station its row. Every ballot is held to the log of the rehearsal, every
- * outcome to its outcomes.
+ * Whole lines of bonders, each good one in a process of its own with a station
+ * for each bit of the number. This process is the wire: each round it collects
+ * the ballots of every good bonder, takes the bad ones' bytes from the bits'
+ * tables, and hands each good bonder its rows. Every ballot is held to the log of
+ * the rehearsal, every outcome to its outcomes. The rehearsal of a number is held
+ * to those of its bits, each alone.
  */
 #define _DEFAULT_SOURCE
 #include "check.h"
@@ -16,22 +17,22 @@
 #include <sys/types.h>
 #include <sys/wait.h>
 
-enum { MOST = 32, LARGEST = 36864, DRAWN_LINES = 200, SAID_EVERY = 50, STATION_SECONDS = 120 };
+enum { MOST = 32, WIDEST = 8, LARGEST = WIDEST * 36864, DRAWN_LINES = 200, SAID_EVERY = 50, STATION_SECONDS = 120 };
 
 struct line {
-    uint8_t n, t, T, sender, value;
+    uint8_t n, t, T, sender, value, w;
     uint32_t marks;
 };
 
-/* What a station tells the wire: running, round, ballot; or done, value,
-   grade, flag, garbled; or refused, number. */
+/* What a bonder tells the wire: running, round, and each bit's ballot; or done,
+   number, grade, flag, garbled; or refused, number. */
 enum { RUNNING, DONE, REFUSED };
-enum { MESSAGE = 1 + VEMBOPU_OUTCOME };
+enum { MESSAGE = 2 + WIDEST };
 
-static uint8_t table[LARGEST], logged[LARGEST], outcomes[VEMBOPU_OUTCOME * MOST];
+static uint8_t table[LARGEST], logged[LARGEST], log_of_bit[LARGEST], outcomes[VEMBOPU_OUTCOME * MOST];
 static int end_of[MOST + 1];    /* the wire's end to station i, -1 for none */
 static pid_t process[MOST + 1]; /* 0 for none */
-static unsigned long lines, ballots, decided;
+static unsigned long lines, ballots, decided, of_width[WIDEST + 1];
 enum { COUNTS = 37 };
 static unsigned long counted[COUNTS]; /* good stations by their count, 0 to 36 */
 
@@ -40,15 +41,33 @@ static int rounds(const struct line *l)
     return 3 * l->t + 6;
 }
 
+/* "0 standing for 1" */
+static int bits(const struct line *l)
+{
+    return l->w == 0 ? 1 : l->w;
+}
+
+/* Of one bit, and of all. */
 static size_t table_len(const struct line *l)
 {
     return (size_t)rounds(l) * l->n * l->n;
 }
 
-/* "the byte for round r, from i, to j" */
+static size_t tables_len(const struct line *l)
+{
+    return (size_t)bits(l) * table_len(l);
+}
+
+/* "the byte for round r, from i, to j", and "the bits' tables one after another,
+   bit 0 first" */
 static size_t place(const struct line *l, int r, int i, int j)
 {
     return (size_t)(((r - 1) * l->n + (i - 1)) * l->n + (j - 1));
+}
+
+static size_t place_of_bit(const struct line *l, int b, int r, int i, int j)
+{
+    return (size_t)b * table_len(l) + place(l, r, i, j);
 }
 
 static int is_bad(const struct line *l, int i)
@@ -80,52 +99,97 @@ static int write_all(int fd, const uint8_t *bytes, size_t len)
     return 1;
 }
 
-/* ---- A station's process ---- */
-
-static int tell(int fd, int kind, int a, int b)
+/* The outcome of a number's bits 0 to b, from that of those below b and that of
+   bit b: "a station's flag is raised if any bit raises it", "The garbled count is
+   the largest of the bits' counts, the grade the smallest." */
+static void take_bit(uint8_t *outcome, int b, const uint8_t *bit)
 {
-    uint8_t message[MESSAGE] = {(uint8_t)kind, (uint8_t)a, (uint8_t)b};
-    return write_all(fd, message, sizeof message);
+    static const uint8_t none[VEMBOPU_OUTCOME] = {0, 2, 0, 0};
+    if (b == 0)
+        memcpy(outcome, none, sizeof none);
+    outcome[0] = (uint8_t)(outcome[0] + (bit[0] << b));
+    outcome[1] = bit[1] < outcome[1] ? bit[1] : outcome[1];
+    outcome[2] = bit[2] > outcome[2] ? bit[2] : outcome[2];
+    outcome[3] = bit[3] > outcome[3] ? bit[3] : outcome[3];
 }
 
-static int tell_done(int fd, uint64_t result)
+/* ---- A bonder's process ---- */
+
+#define NUMBERS(l) (l)->n, (l)->t, (l)->T, (l)->sender
+
+/* A station for each bit; each call gives the refusal's number. At one that isn't
+   the sender's the value has no effect: there it is handed either. */
+static uint32_t open_bits(const struct line *l, uint8_t own, uint64_t *state)
 {
-    uint8_t message[MESSAGE] = {DONE, vembopu_value(result), vembopu_grade(result), vembopu_flag(result),
-                                vembopu_garbled(result)};
-    return write_all(fd, message, sizeof message);
+    uint32_t refused = 0;
+    for (int b = 0; b < bits(l) && refused == 0; b++) {
+        int value = own == l->sender ? l->value >> b : own + b;
+        uint64_t a = vembopu_open(NUMBERS(l), own, value & 1);
+        state[b] = vembopu_state(a);
+        refused = vembopu_refusal(a);
+    }
+    return refused;
 }
 
-/* Returns when it is done, refused, or the wire is gone. At a station that
-   isn't the sender the value has no effect: there it is handed either. */
-static void station(const struct line *l, uint8_t own, int wire)
+/* The stations' ballots, or their outcome when they are done; round 0 if they are
+   not in one round. */
+static uint32_t say(const struct line *l, uint8_t own, const uint64_t *state, uint8_t *message)
+{
+    uint32_t refused = 0;
+    for (int b = 0; b < bits(l) && refused == 0; b++) {
+        uint64_t result = vembopu_result(NUMBERS(l), own, state[b]);
+        const uint8_t end[VEMBOPU_OUTCOME] = {vembopu_value(result), vembopu_grade(result), vembopu_flag(result),
+                                              vembopu_garbled(result)};
+        message[0] = vembopu_done(result) ? DONE : RUNNING;
+        refused = vembopu_refusal(result);
+        if (message[0] == DONE) {
+            take_bit(message + 1, b, end);
+            continue;
+        }
+        uint64_t a = vembopu_ballot(NUMBERS(l), own, state[b]);
+        refused = refused ? refused : vembopu_refusal(a);
+        message[1] = b == 0 || message[1] == vembopu_round(result) ? vembopu_round(result) : 0;
+        message[2 + b] = vembopu_ballot_byte(a);
+    }
+    return refused;
+}
+
+/* Each bit's row to its station. */
+static uint32_t take_rows(const struct line *l, uint8_t own, uint64_t *state, const uint8_t *rows)
+{
+    uint32_t refused = 0;
+    for (int b = 0; b < bits(l) && refused == 0; b++) {
+        uint64_t a = vembopu_advance(NUMBERS(l), own, state[b], rows + b * l->n, l->n);
+        state[b] = vembopu_state(a);
+        refused = vembopu_refusal(a);
+    }
+    return refused;
+}
+
+/* Returns when it is done, refused, or the wire is gone. */
+static void bonder(const struct line *l, uint8_t own, int wire)
 {
     struct guarded g = guarded_page();
-    uint8_t *row = g.page + g.size - l->n;
-    uint8_t value = own == l->sender ? l->value : own & 1;
-    uint64_t a = vembopu_open(l->n, l->t, l->T, l->sender, own, value);
-    while (vembopu_refusal(a) == 0) {
-        uint64_t state = vembopu_state(a);
-        uint64_t result = vembopu_result(l->n, l->t, l->T, l->sender, own, state);
-        if (vembopu_done(result)) {
-            tell_done(wire, result);
-            return;
-        }
-        uint64_t b = vembopu_ballot(l->n, l->t, l->T, l->sender, own, state);
-        a = vembopu_refusal(result) ? result : b;
-        if (vembopu_refusal(a) != 0)
+    size_t len = (size_t)bits(l) * l->n;
+    uint8_t *rows = g.page + g.size - len, message[MESSAGE] = {RUNNING};
+    uint64_t state[WIDEST];
+    uint32_t refused = open_bits(l, own, state);
+    while (refused == 0) {
+        refused = say(l, own, state, message);
+        if (refused != 0)
             break;
-        if (!tell(wire, RUNNING, vembopu_round(result), vembopu_ballot_byte(b)))
+        if (!write_all(wire, message, sizeof message) || message[0] == DONE || !read_all(wire, rows, len))
             return;
-        if (!read_all(wire, row, l->n))
-            return;
-        a = vembopu_advance(l->n, l->t, l->T, l->sender, own, state, row, l->n);
+        refused = take_rows(l, own, state, rows);
     }
-    tell(wire, REFUSED, (int)vembopu_refusal(a), 0);
+    message[0] = REFUSED;
+    message[1] = (uint8_t)refused;
+    write_all(wire, message, sizeof message);
 }
 
 /* ---- The processes of a line ---- */
 
-/* A station's process keeps only its own end, so that it sees the wire go; and
+/* A bonder's process keeps only its own end, so that it sees the wire go; and
    it has a time limit. */
 static int start(const struct line *l, int i)
 {
@@ -140,7 +204,7 @@ static int start(const struct line *l, int i)
                 close(end_of[k]);
         close(pair[0]);
         alarm(STATION_SECONDS);
-        station(l, (uint8_t)i, pair[1]);
+        bonder(l, (uint8_t)i, pair[1]);
         _exit(0);
     }
     close(pair[1]);
@@ -180,18 +244,38 @@ static int end_all(void)
 
 static int differs(const struct line *l, int r, int i, const char *what)
 {
-    printf("n %d t %d T %d sender %d value %d marks %08lx, round %d, station %d: %s\n", l->n, l->t,
-           l->T, l->sender, l->value, (unsigned long)l->marks, r, i, what);
+    printf("n %d t %d T %d sender %d value %d w %d marks %08lx, round %d, station %d: %s\n", l->n, l->t, l->T, l->sender,
+           l->value, l->w, (unsigned long)l->marks, r, i, what);
     return 0;
 }
 
-/* One ballot from each good station, held to all its bytes in the log. */
-static int take_ballots(const struct line *l, int r, uint8_t *said)
+/* 1 if in this round a bad bonder's bytes are the tables', in each bit. */
+static int as_in_tables(const struct line *l, int r, int i)
+{
+    int same = 1;
+    for (int b = 0; b < bits(l); b++) {
+        size_t at = place_of_bit(l, b, r, i, 1);
+        same = same && memcmp(logged + at, table + at, l->n) == 0;
+    }
+    return same;
+}
+
+/* 1 if a good one's bytes to all are its ballots, in each bit. */
+static int as_said(const struct line *l, int r, int i, const uint8_t *said)
+{
+    int same = 1;
+    for (int k = 0; k < bits(l) * l->n; k++, ballots++)
+        same = same && logged[place_of_bit(l, k / l->n, r, i, k % l->n + 1)] == said[k / l->n];
+    return same;
+}
+
+/* The ballots of each good bonder, held to all its bytes in the log. */
+static int take_ballots(const struct line *l, int r, uint8_t said[][WIDEST])
 {
     for (int i = 1; i <= l->n; i++) {
         uint8_t m[MESSAGE];
         if (is_bad(l, i)) {
-            if (memcmp(logged + place(l, r, i, 1), table + place(l, r, i, 1), l->n) != 0)
+            if (!as_in_tables(l, r, i))
                 return differs(l, r, i, "a bad station's bytes are not the table's");
             continue;
         }
@@ -199,23 +283,24 @@ static int take_ballots(const struct line *l, int r, uint8_t *said)
             return differs(l, r, i, "no ballot");
         if (m[0] != RUNNING || m[1] != r)
             return differs(l, r, i, "not running in this round");
-        for (int j = 1; j <= l->n; j++, ballots++)
-            if (logged[place(l, r, i, j)] != m[2])
-                return differs(l, r, i, "another ballot than in the log");
-        said[i] = m[2];
+        memcpy(said[i], m + 2, WIDEST);
+        if (!as_said(l, r, i, said[i]))
+            return differs(l, r, i, "another ballot than in the log");
     }
     return 1;
 }
 
-static int hand_rows(const struct line *l, int r, const uint8_t *said)
+static int hand_rows(const struct line *l, int r, uint8_t said[][WIDEST])
 {
-    uint8_t row[MOST];
+    uint8_t rows[WIDEST * MOST];
     for (int j = 1; j <= l->n; j++) {
         if (is_bad(l, j))
             continue;
-        for (int i = 1; i <= l->n; i++)
-            row[i - 1] = is_bad(l, i) ? table[place(l, r, i, j)] : said[i];
-        if (!write_all(end_of[j], row, l->n))
+        for (int k = 0; k < bits(l) * l->n; k++) {
+            int b = k / l->n, i = k % l->n + 1;
+            rows[k] = is_bad(l, i) ? table[place_of_bit(l, b, r, i, j)] : said[i][b];
+        }
+        if (!write_all(end_of[j], rows, (size_t)bits(l) * l->n))
             return differs(l, r, j, "takes no row");
     }
     return 1;
@@ -232,6 +317,8 @@ static int take_outcomes(const struct line *l)
             return differs(l, done, i, "not done after R rows");
         if (memcmp(outcomes + VEMBOPU_OUTCOME * (i - 1), m + 1, VEMBOPU_OUTCOME) != 0)
             return differs(l, done, i, "another outcome than the rehearsal's");
+        if (vembopu_is_bad(outcomes + VEMBOPU_OUTCOME * (i - 1)) != is_bad(l, i))
+            return differs(l, done, i, "good or bad by its outcome, and isn't");
         counted[m[4] % COUNTS] += !is_bad(l, i);
     }
     return 1;
@@ -239,17 +326,46 @@ static int take_outcomes(const struct line *l)
 
 static int rehearsed(const struct line *l)
 {
-    size_t len = table_len(l);
+    size_t len = tables_len(l);
     memset(logged, 170, sizeof logged);
     memset(outcomes, 170, sizeof outcomes);
-    return vembopu_rehearse(l->n, l->t, l->T, l->sender, l->value, l->marks, table, len, logged, len,
+    return vembopu_rehearse(l->n, l->t, l->T, l->sender, l->value, l->w, l->marks, table, len, logged, len,
                             outcomes, (size_t)VEMBOPU_OUTCOME * l->n) == 0;
+}
+
+/* The outcomes of all after bit b. */
+static void take_ends(const struct line *l, int b, const uint8_t *ends, uint8_t *together)
+{
+    for (int i = 1; i <= l->n; i++) {
+        size_t at = (size_t)VEMBOPU_OUTCOME * (size_t)(i - 1);
+        if (is_bad(l, i))
+            memset(together + at, 255, VEMBOPU_OUTCOME);
+        else
+            take_bit(together + at, b, ends + at);
+    }
+}
+
+/* 1 if the rehearsal of each bit alone gives its part of the log, and their
+   outcomes together the number's. */
+static int bit_by_bit(const struct line *l)
+{
+    uint8_t ends[VEMBOPU_OUTCOME * MOST], together[VEMBOPU_OUTCOME * MOST];
+    size_t len = table_len(l), of_line = (size_t)VEMBOPU_OUTCOME * l->n;
+    int same = 1;
+    for (int b = 0; b < bits(l); b++) {
+        const uint8_t *part = table + (size_t)b * len;
+        same = same && vembopu_rehearse(l->n, l->t, l->T, l->sender, l->value >> b & 1, (uint8_t)(b % 2), l->marks,
+                                        part, len, log_of_bit, len, ends, of_line) == 0;
+        same = same && memcmp(log_of_bit, logged + (size_t)b * len, len) == 0;
+        take_ends(l, b, ends, together);
+    }
+    return same && memcmp(together, outcomes, of_line) == 0;
 }
 
 static int run(const struct line *l)
 {
-    uint8_t said[MOST + 1];
-    int same = start_all(l) && rehearsed(l);
+    uint8_t said[MOST + 1][WIDEST];
+    int same = start_all(l) && rehearsed(l) && bit_by_bit(l);
     for (int r = 1; same && r <= rounds(l); r++)
         same = take_ballots(l, r, said) && hand_rows(l, r, said);
     same = same && take_outcomes(l);
@@ -258,8 +374,9 @@ static int run(const struct line *l)
 
 static void check_line(const struct line *l)
 {
-    check(run(l), "n %d t %d T %d sender %d value %d marks %08lx", l->n, l->t, l->T, l->sender,
-          l->value, (unsigned long)l->marks);
+    check(run(l), "n %d t %d T %d sender %d value %d w %d marks %08lx", l->n, l->t, l->T, l->sender, l->value, l->w,
+          (unsigned long)l->marks);
+    of_width[l->w]++;
     if (++lines % SAID_EVERY == 0) {
         printf("%lu lines\n", lines);
         fflush(stdout);
@@ -281,7 +398,7 @@ static uint8_t from_card(int from)
 static void draw_table(const struct line *l, int kind)
 {
     static const uint8_t code[] = {0, 1, 2, 255};
-    size_t len = table_len(l);
+    size_t len = tables_len(l);
     for (size_t k = 0; k < len; k++) {
         int to = (int)(k % l->n), from = (int)(k / l->n % l->n) + 1;
         if (kind == ANY || !is_bad(l, from))
@@ -315,15 +432,22 @@ static uint32_t some(int n, int k)
     return marks;
 }
 
+/* Mostly a number of few bits. */
+static void draw_number(struct line *l)
+{
+    l->w = (uint8_t)draw(draw(3) == 0 ? WIDEST + 1 : 3);
+    l->value = (uint8_t)draw((uint32_t)1 << bits(l));
+}
+
 /* One line with each kind of marks: none, all, the sender alone, t and T
    stations, the first t kings, all kings. */
 static void each_marking(int n, int t, int T)
 {
-    struct line l = {(uint8_t)n, (uint8_t)t, (uint8_t)T, (uint8_t)(1 + draw((uint32_t)n)), 0, 0};
+    struct line l = {(uint8_t)n, (uint8_t)t, (uint8_t)T, (uint8_t)(1 + draw((uint32_t)n)), 0, 0, 0};
     uint32_t sender = (uint32_t)1 << (l.sender - 1);
     uint32_t marks[] = {0, first(n), sender, some(n, t), some(n, T), first(t), first(t + 1)};
     for (size_t k = 0; k < sizeof marks / sizeof marks[0]; k++) {
-        l.value = (uint8_t)draw(2);
+        draw_number(&l);
         l.marks = marks[k];
         draw_table(&l, (int)draw(TABLES));
         check_line(&l);
@@ -339,12 +463,13 @@ static void every_size(void)
     }
 }
 
-/* The largest line and the one of the largest T, under every kind of table. */
+/* The largest line and the one of the largest T, then eight bits of the largest,
+   under every kind of table. */
 static void largest(void)
 {
-    static const struct line both[] = {{32, 10, 10, 1, 1, 0}, {32, 0, 15, 32, 0, 0}};
-    for (int k = 0; k < 2 * TABLES; k++) {
-        struct line l = both[k / TABLES];
+    static const struct line all[] = {{32, 10, 10, 1, 1, 0, 0}, {32, 0, 15, 32, 0, 1, 0}, {32, 10, 10, 7, 255, 8, 0}};
+    for (int k = 0; k < 3 * TABLES; k++) {
+        struct line l = all[k / TABLES];
         l.marks = some(l.n, l.T) | (uint32_t)(k % 2) << (l.sender - 1);
         draw_table(&l, k % TABLES);
         check_line(&l);
@@ -359,7 +484,8 @@ static void by_lot(void)
         int most = n - 1 - 2 * T < T ? n - 1 - 2 * T : T;
         int t = (int)draw((uint32_t)most + 1);
         struct line l = {(uint8_t)n, (uint8_t)t, (uint8_t)T, (uint8_t)(1 + draw((uint32_t)n)),
-                         (uint8_t)draw(2), some(n, (int)draw((uint32_t)n + 1))};
+                         0, 0, some(n, (int)draw((uint32_t)n + 1))};
+        draw_number(&l);
         draw_table(&l, k % TABLES);
         check_line(&l);
     }
@@ -367,10 +493,14 @@ static void by_lot(void)
 
 /* ---- The documents' cases ---- */
 
+#define BAD 255, 255, 255, 255
+#define WANT (const uint8_t[])
+
 static void check_case(char name, const struct line *l, const uint8_t *want)
 {
     check_line(l);
-    check(memcmp(outcomes, want, (size_t)VEMBOPU_OUTCOME * l->n) == 0, "outcomes of case %c", name);
+    check(memcmp(outcomes, want, (size_t)VEMBOPU_OUTCOME * l->n) == 0, "outcomes of case %c, w %d, value %d", name, l->w,
+          l->value);
 }
 
 /* Case A with garbled ballots from station 4 to station 1 in rounds 1 to 3, and
@@ -382,29 +512,73 @@ static void garbled_case(const struct line *a)
         table[place(a, r, 4, 1)] = 77;
         table[place(a, r, 4, 2)] = 2;
     }
-    check_case('A', a, (const uint8_t[]){1, 2, 0, 2, 1, 2, 0, 1, 1, 2, 0, 0, 255, 255, 255, 255});
+    check_case('A', a, WANT{1, 2, 0, 2, 1, 2, 0, 1, 1, 2, 0, 0, BAD});
 }
 
-static void cases(void)
+/* With w 0, and with w 1, which it stands for. */
+static void cases(uint8_t w)
 {
-    static const struct line a = {4, 1, 1, 1, 1, 8}, b = {4, 0, 1, 4, 0, 8}, c = {3, 0, 1, 1, 0, 1};
-    static const struct line d = {1, 0, 0, 1, 0, 0}, bad = {1, 0, 0, 1, 0, 1};
+    const struct line a = {4, 1, 1, 1, 1, w, 8}, b = {4, 0, 1, 4, 0, w, 8}, c = {3, 0, 1, 1, 0, w, 1};
+    const struct line d = {1, 0, 0, 1, 0, w, 0}, bad = {1, 0, 0, 1, 0, w, 1};
     static const int told[] = {1, 2, 3, 5, 6};
     memset(table, 255, sizeof table);
-    check_case('A', &a, (const uint8_t[]){1, 2, 0, 0, 1, 2, 0, 0, 1, 2, 0, 0, 255, 255, 255, 255});
+    check_case('A', &a, WANT{1, 2, 0, 0, 1, 2, 0, 0, 1, 2, 0, 0, BAD});
     garbled_case(&a);
     memset(table, 255, sizeof table);
     table[place(&b, 1, 4, 1)] = 1;
     table[place(&b, 1, 4, 2)] = table[place(&b, 1, 4, 3)] = 0;
-    check_case('B', &b, (const uint8_t[]){1, 1, 1, 0, 1, 1, 1, 0, 1, 1, 1, 0, 255, 255, 255, 255});
+    check_case('B', &b, WANT{1, 1, 1, 0, 1, 1, 1, 0, 1, 1, 1, 0, BAD});
     memset(table, 255, sizeof table);
     for (int k = 0; k < 5; k++) {
         table[place(&c, told[k], 1, 2)] = 0;
         table[place(&c, told[k], 1, 3)] = 1;
     }
-    check_case('C', &c, (const uint8_t[]){255, 255, 255, 255, 0, 1, 1, 0, 1, 1, 1, 0});
-    check_case('D', &d, (const uint8_t[]){0, 2, 0, 0});
-    check_case('D', &bad, (const uint8_t[]){255, 255, 255, 255});
+    check_case('C', &c, WANT{BAD, 0, 1, 1, 0, 1, 1, 1, 0});
+    check_case('D', &d, WANT{0, 2, 0, 0});
+    check_case('D', &bad, WANT{BAD});
+}
+
+/* Case A's line with the largest number, beside a bad station; then what station 4
+   sends is garbled: at station 1 in one round of bit 0 and three of bit 7, at
+   station 2 in two of bit 0 and one of bit 6. The largest counts. */
+static void largest_number(void)
+{
+    static const struct line a = {4, 1, 1, 1, 255, 8, 8};
+    static const int told[][3] = {{0, 2, 1}, {7, 2, 1}, {7, 3, 1}, {7, 5, 1}, {0, 2, 2}, {0, 3, 2}, {6, 5, 2}};
+    memset(table, 255, sizeof table);
+    check_case('A', &a, WANT{255, 2, 0, 0, 255, 2, 0, 0, 255, 2, 0, 0, BAD});
+    for (int k = 0; k < 7; k++)
+        table[place_of_bit(&a, told[k][0], told[k][1], 4, told[k][2])] = 77;
+    check_case('A', &a, WANT{255, 2, 0, 3, 255, 2, 0, 2, 255, 2, 0, 0, BAD});
+}
+
+/* Case C in bit 2 of three, and silence in the others: the numbers 0 and 4, and
+   both flag. */
+static void different_numbers(void)
+{
+    static const struct line c = {3, 0, 1, 1, 0, 3, 1};
+    static const int told[] = {1, 2, 3, 5, 6};
+    memset(table, 255, sizeof table);
+    for (int k = 0; k < 5; k++) {
+        table[place_of_bit(&c, 2, told[k], 1, 2)] = 0;
+        table[place_of_bit(&c, 2, told[k], 1, 3)] = 1;
+    }
+    check_case('C', &c, WANT{BAD, 0, 1, 1, 0, 4, 1, 1, 0});
+}
+
+/* Case B's line with a good sender. Station 4 keeps the rules where the bit is 0,
+   the last bit or the first, and is silent in the other, which alone has grade 1
+   and a flag. */
+static void flagged_in_one_bit(void)
+{
+    static const int exchanges[] = {2, 3, 5, 6};
+    for (uint8_t number = 1; number <= 2; number++) {
+        const struct line b = {4, 0, 1, 1, number, 2, 8};
+        memset(table, 255, sizeof table);
+        for (int k = 0; k < 4; k++)
+            memset(table + place_of_bit(&b, number == 1, exchanges[k], 4, 1), 0, 4);
+        check_case('B', &b, WANT{number, 1, 1, 0, number, 1, 1, 0, number, 1, 1, 0, BAD});
+    }
 }
 
 /* The counts that good stations ended with: none, and most that there can be. */
@@ -417,14 +591,27 @@ static void check_counts(void)
     check(counted[0] > 0 && kinds > 25, "too few counts came: %d", kinds);
 }
 
+static void check_widths(void)
+{
+    for (int w = 0; w <= WIDEST; w++) {
+        printf("%s%d: %lu%s", w == 0 ? "lines by w: " : "", w, of_width[w], w < WIDEST ? ", " : "\n");
+        check(of_width[w] > 9, "too few lines with w %d: %lu", w, of_width[w]);
+    }
+}
+
 int main(void)
 {
     signal(SIGPIPE, SIG_IGN);
-    cases();
+    cases(0);
+    cases(1);
+    largest_number();
+    different_numbers();
+    flagged_in_one_bit();
     largest();
     every_size();
     by_lot();
     check_counts();
+    check_widths();
     printf("%lu lines: %lu ballots held to the log, %lu outcomes\n", lines, ballots, decided);
     return closing_count();
 }

@@ -1,6 +1,6 @@
 /*
  * The station's calls, the writer's and the checker's written once more, in C
- * from documents 01 and 02 (Tickets 1 to 4), for the tests: the judgement, the
+ * from documents 01 and 02 (Tickets 1 to 5), for the tests: the judgement, the
  * steps of a station that is accepted, the sheet that is written, and the set of
  * stations that broke the rules. Shares no code with the library.
  */
@@ -61,6 +61,24 @@ static inline int judge_open(const struct call *c)
 {
     int number = judge_numbers(c);
     if (number == 0 && c->value != 0 && c->value != 1)
+        return 5;
+    return number;
+}
+
+/* "0 standing for 1" */
+static inline int bits_of(int w)
+{
+    return w == 0 ? 1 : w;
+}
+
+/* 15 first, then 2 to 5: "A number of 2 to the power w or above is refused by
+   5", "w above 8 by 15". Of a c whose own number is its sender's. */
+static inline int judge_number(const struct call *c, int w)
+{
+    if (w > 8)
+        return 15;
+    int number = judge_numbers(c);
+    if (number == 0 && c->value >= 1 << bits_of(w))
         return 5;
     return number;
 }
@@ -224,7 +242,7 @@ static inline uint64_t model_result(const struct call *c)
     return answer(0, bytes5(1, c->x, c->grade, c->grade < 2, c->garbled));
 }
 
-/* ---- The writer of run sheets: document 02, Ticket 1 ---- */
+/* ---- The writer of run sheets: document 02, Tickets 1 and 5 ---- */
 
 /* What the writer is handed; vembopu_sheet_len has no sheet. */
 struct writing {
@@ -240,17 +258,28 @@ static inline int is_marked(const uint8_t *header, int station)
     return header[8 + (station - 1) / 8] >> (station - 1) % 8 & 1;
 }
 
-/* 1 to 6: "A header not of 12 bytes is 1", then as a sheet's. */
+/* 1, 15, 2 to 6: "A header not of 12 bytes is 1", then as a sheet's. */
 static inline int judge_header(const uint8_t *header, size_t len)
 {
-    if (len != 12 || header[5] != 0)
+    if (len != 12)
         return 1;
     struct call c = {header[0], header[1], header[2], header[3], header[3], header[4], 0, 0, 0, 0, 0, NULL, 0};
-    int number = judge_open(&c);
+    int number = judge_number(&c, header[5]);
     for (int i = c.n + 1; number == 0 && i <= 32; i++)
         if (is_marked(header, i))
             number = 6;
     return number;
+}
+
+/* The bytes of one bit's table, and of all bits'. */
+static inline size_t table_bytes(const uint8_t *header)
+{
+    return (size_t)rounds(header[1]) * header[0] * header[0];
+}
+
+static inline size_t tables_bytes(const uint8_t *header)
+{
+    return (size_t)bits_of(header[5]) * table_bytes(header);
 }
 
 /* "one record for each byte of a marked sender that is not 255" */
@@ -268,22 +297,22 @@ static inline size_t records_of(const struct writing *w)
     return k;
 }
 
-/* "by round, then from, then to, chained 1, 2, 3" */
+/* "by round, then from, then to, chained 1, 2, 3", and "by bit before round" */
 static inline void put_records(const struct writing *w, uint8_t *record)
 {
-    size_t n = w->header[0], k = records_of(w), index = 0;
+    size_t n = w->header[0], one = table_bytes(w->header), k = records_of(w), index = 0;
     for (size_t place = 0; place < w->table_len; place++) {
         if (!is_record(w, place))
             continue;
         index++;
         size_t next = index < k ? index + 1 : 0;
-        *record++ = (uint8_t)(place / n / n + 1);
+        *record++ = (uint8_t)(place % one / n / n + 1);
         *record++ = (uint8_t)(place / n % n + 1);
         *record++ = (uint8_t)(place % n + 1);
         *record++ = w->table[place];
         *record++ = (uint8_t)(next % 256);
         *record++ = (uint8_t)(next / 256);
-        *record++ = 0;
+        *record++ = (uint8_t)(place / one);
         *record++ = 0;
     }
 }
@@ -295,7 +324,7 @@ static inline int judge_sheet_len(const struct writing *w)
     int number = judge_header(w->header, w->header_len);
     if (number != 0)
         return number;
-    if (w->table_len != (size_t)(rounds(w->header[1]) * w->header[0] * w->header[0]))
+    if (w->table_len != tables_bytes(w->header))
         return 8;
     return records_of(w) > 4096 ? 14 : 0;
 }

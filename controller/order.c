@@ -11,7 +11,7 @@
 
 #include <string.h>
 
-enum { NUMBERS = 5, BYTES = 10, BUFFERS = 3, SPACE = 128, UNWRITTEN = 170 };
+enum { NUMBERS = 5, BYTES = 10, BUFFERS = 3, SPACE = 256, UNWRITTEN = 170 };
 
 /* A call's arguments of one byte in the order of its header; after these the
    state's round, value, z, grade and garbled, or the whole lent station alone;
@@ -80,6 +80,11 @@ static uint64_t run_read(struct arguments *a)
     return vembopu_read(BUFFER(a, 0), BUFFER(a, 1));
 }
 
+static uint64_t run_read_bit(struct arguments *a)
+{
+    return vembopu_read_bit(BUFFER(a, 0), a->byte[0], BUFFER(a, 1));
+}
+
 static uint64_t run_sheet_len(struct arguments *a)
 {
     return vembopu_sheet_len(BUFFER(a, 0), BUFFER(a, 1));
@@ -92,7 +97,7 @@ static uint64_t run_write(struct arguments *a)
 
 static uint64_t run_rehearse(struct arguments *a)
 {
-    return vembopu_rehearse(FIVE_NUMBERS(a), a->marks, BUFFER(a, 0), BUFFER(a, 1), BUFFER(a, 2));
+    return vembopu_rehearse(FIVE_NUMBERS(a), a->byte[5], a->marks, BUFFER(a, 0), BUFFER(a, 1), BUFFER(a, 2));
 }
 
 static uint64_t run_check(struct arguments *a)
@@ -119,14 +124,15 @@ static const struct call {
     {"vembopu_result", run_result, BYTES, NUMBERS, 0, {3, 4}, {0, 0}},
     {"vembopu_advance_lent", run_advance_lent, BYTES, 0, 1, {0, 0}, {0, 0}},
     {"vembopu_read", run_read, 0, 0, 2, {0, 0}, {0, 0}},
+    {"vembopu_read_bit", run_read_bit, 1, 0, 2, {0, 0}, {0, 0}},
     {"vembopu_sheet_len", run_sheet_len, 0, 0, 2, {0, 0}, {0, 0}},
     {"vembopu_write", run_write, 0, 0, 3, {0, 0}, {0, 0}},
-    {"vembopu_rehearse", run_rehearse, 5, 0, 3, {0, 0}, {0, 1}},
+    {"vembopu_rehearse", run_rehearse, 6, 0, 3, {0, 0}, {0, 1}},
     {"vembopu_check", run_check, 4, 0, 2, {0, 0}, {0, 0}},
     {"vembopu_exchange", run_exchange, 3, 0, 3, {0, 0}, {0, 0}},
 };
 
-enum { OPEN, BALLOT, ADVANCE, RESULT, ADVANCE_LENT, READ, SHEET_LEN, WRITE, REHEARSE, CHECK, EXCHANGE, CALLS };
+enum { OPEN, BALLOT, ADVANCE, RESULT, ADVANCE_LENT, READ, READ_BIT, SHEET_LEN, WRITE, REHEARSE, CHECK, EXCHANGE, CALLS };
 
 /* ---- The examples ---- */
 
@@ -186,6 +192,49 @@ static const uint8_t garbled_log[] = {TO_ALL(255), TO_ALL(255), TO_ALL(255), LIA
                                       HEARD_OF_4(1, 1, 1, 255, 2), ROUND(1, 1, 1, 255)};
 static const uint8_t garbled_outcomes[] = {1, 1, 1, 0, 1, 1, 1, 1, 1, 1, 1, 0, TO_ALL(255)};
 
+/* Two bits of the same line, as a sheet whose chain is in no order, and written
+   anew: by bit, then round. */
+#define FROM_4(a, b, c, d) TO_ALL(255), TO_ALL(255), TO_ALL(255), a, b, c, d
+#define TWO_0 SILENT, SILENT, SILENT, SILENT, FROM_4(255, 255, 255, 1), SILENT
+#define TWO_1 SILENT, FROM_4(0, 255, 255, 255), FROM_4(255, 7, 255, 255), SILENT, SILENT, SILENT
+static const uint8_t two_sheet[] = {
+    4, 0, 1, 3, 1, 2, 1, 0, 8, 0, 0, 0,
+    3, 4, 2, 7, 2, 0, 1, 0,
+    2, 4, 1, 0, 3, 0, 1, 0,
+    5, 4, 4, 1, 0, 0, 0, 0,
+};
+static const uint8_t two_header[] = {4, 0, 1, 3, 1, 2, 77, 88, 8, 0, 0, 0};
+static const uint8_t two_read[] = {TWO_0, TWO_1}, two_bit_0[] = {TWO_0}, two_bit_1[] = {TWO_1};
+static const uint8_t two_written[] = {
+    4, 0, 1, 3, 1, 2, 1, 0, 8, 0, 0, 0,
+    5, 4, 4, 1, 2, 0, 0, 0,
+    2, 4, 1, 0, 3, 0, 1, 0,
+    3, 4, 2, 7, 0, 0, 1, 0,
+};
+
+/* Its run with another table: station 3, good, sends the number 1, a one in bit 0
+   and a zero in bit 1. Station 4 is silent in bit 0, which has grade 1 and a
+   flag. In bit 1 it keeps the rules, but that in round 3 what station 2 gets is
+   garbled: grade 2 in the end, and a count of 1 at station 2. */
+#define ZERO_OF_4 ROUND(9, 9, 9, 0)
+#define ALL_ONES ROUND(1, 1, 1, 255)
+#define ALL_ZEROS ROUND(0, 0, 0, 0)
+static const uint8_t two_table[] = {NO_EFFECT, FIVE(NO_EFFECT),
+                                    NO_EFFECT, ZERO_OF_4, TO_ALL(9), TO_ALL(9), TO_ALL(9), 0, 7, 0, 0,
+                                    NO_EFFECT, ZERO_OF_4, ZERO_OF_4};
+static const uint8_t two_log[] = {ROUND(255, 255, 1, 255), ALL_ONES, ALL_ONES, ROUND(1, 255, 255, 255), ALL_ONES,
+                                  ALL_ONES,
+                                  ROUND(255, 255, 0, 255), ALL_ZEROS, TO_ALL(0), TO_ALL(0), TO_ALL(0), 0, 7, 0, 0,
+                                  ROUND(0, 255, 255, 255), ALL_ZEROS, ALL_ZEROS};
+static const uint8_t two_outcomes[] = {1, 1, 1, 0, 1, 1, 1, 1, 1, 1, 1, 0, TO_ALL(255)};
+
+/* One station alone that agrees on the largest number: in each of eight bits a one
+   in every round. */
+#define SIX(b) b, b, b, b, b, b
+static const uint8_t alone_table[] = {SIX(9), SIX(9), SIX(9), SIX(9), SIX(9), SIX(9), SIX(9), SIX(9)};
+static const uint8_t alone_log[] = {SIX(1), SIX(1), SIX(1), SIX(1), SIX(1), SIX(1), SIX(1), SIX(1)};
+static const uint8_t alone_outcomes[] = {255, 2, 0, 0};
+
 /* Case B's first exchange, had alone: garbled in no round, in the second, in
    both. */
 static const uint8_t inputs[] = {1, 0, 0, 9};
@@ -222,6 +271,15 @@ static const struct example examples[] = {
     {.call = RESULT, .byte = {16, 2, 5, 9, 7, 5, 1, 2, 0, 3}, .answer = 0x00000500u},
     {.call = RESULT, .byte = {16, 2, 5, 9, 7, 13, 0, 2, 1, 7}, .answer = 0x0701010001u},
     {.call = READ, .before = {b_sheet}, .len = {sizeof b_sheet, sizeof b_read}, .after = {NULL, b_read}},
+    {.call = READ, .before = {two_sheet}, .len = {sizeof two_sheet, sizeof two_read}, .after = {NULL, two_read}},
+    {.call = READ_BIT, .byte = {0}, .before = {two_sheet}, .len = {sizeof two_sheet, sizeof two_bit_0},
+     .after = {NULL, two_bit_0}},
+    {.call = READ_BIT, .byte = {1}, .before = {two_sheet}, .len = {sizeof two_sheet, sizeof two_bit_1},
+     .after = {NULL, two_bit_1}},
+    {.call = SHEET_LEN, .before = {two_header, two_read}, .len = {sizeof two_header, sizeof two_read},
+     .answer = sizeof two_written},
+    {.call = WRITE, .before = {two_header, two_read},
+     .len = {sizeof two_header, sizeof two_read, sizeof two_written}, .answer = 3, .after = {NULL, NULL, two_written}},
     {.call = SHEET_LEN, .before = {b_header, b_table}, .len = {sizeof b_header, sizeof b_table},
      .answer = sizeof b_sheet},
     /* three records */
@@ -231,6 +289,14 @@ static const struct example examples[] = {
      .len = {sizeof b_table, sizeof b_log, sizeof b_outcomes}, .after = {NULL, b_log, b_outcomes}},
     {.call = REHEARSE, .byte = {4, 0, 1, 3, 1}, .marks = 0, .before = {good_table},
      .len = {sizeof good_table, sizeof good_log, sizeof good_outcomes}, .after = {NULL, good_log, good_outcomes}},
+    /* w 1 is what 0 stands for */
+    {.call = REHEARSE, .byte = {4, 0, 1, 3, 1, 1}, .marks = 0, .before = {good_table},
+     .len = {sizeof good_table, sizeof good_log, sizeof good_outcomes}, .after = {NULL, good_log, good_outcomes}},
+    {.call = REHEARSE, .byte = {4, 0, 1, 3, 1, 2}, .marks = 8, .before = {two_table},
+     .len = {sizeof two_table, sizeof two_log, sizeof two_outcomes}, .after = {NULL, two_log, two_outcomes}},
+    {.call = REHEARSE, .byte = {1, 0, 0, 1, 255, 8}, .marks = 0, .before = {alone_table},
+     .len = {sizeof alone_table, sizeof alone_log, sizeof alone_outcomes},
+     .after = {NULL, alone_log, alone_outcomes}},
     {.call = REHEARSE, .byte = {4, 0, 1, 4, 0}, .marks = 8, .before = {garbled_table},
      .len = {sizeof garbled_table, sizeof garbled_log, sizeof garbled_outcomes},
      .after = {NULL, garbled_log, garbled_outcomes}},
@@ -428,8 +494,9 @@ static void numbers(void)
                                 VEMBOPU_BAD_THRESHOLDS,  VEMBOPU_BAD_NUMBER,    VEMBOPU_BAD_VALUE,
                                 VEMBOPU_BAD_MARKS,       VEMBOPU_BAD_STATE,     VEMBOPU_BAD_LENGTH,
                                 VEMBOPU_CHAIN_LEAVES,    VEMBOPU_CHAIN_REPEATS, VEMBOPU_BAD_RECORD,
-                                VEMBOPU_UNMARKED_SENDER, VEMBOPU_DUPLICATE,     VEMBOPU_TOO_MANY_RECORDS};
-    for (int k = 0; k < 15; k++)
+                                VEMBOPU_UNMARKED_SENDER, VEMBOPU_DUPLICATE,     VEMBOPU_TOO_MANY_RECORDS,
+                                VEMBOPU_BAD_WIDTH};
+    for (int k = 0; k < 16; k++)
         check(named[k] == k, "the name of refusal %d is %d", k, named[k]);
 }
 

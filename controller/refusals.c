@@ -14,7 +14,7 @@
 
 enum { OPEN = 1, BALLOT = 2, ADVANCE = 4, LENT = 8, RESULT = 16 };
 enum { TAKES_ROW = ADVANCE | LENT, HAS_STATE = BALLOT | TAKES_ROW | RESULT, ALL = OPEN | HAS_STATE };
-enum { CALLS = 5, LONGEST_ROW = 300, BLOCK = 10000, BLOCKS = 10, NUMBERS = 15 };
+enum { CALLS = 5, LONGEST_ROW = 300, BLOCK = 10000, BLOCKS = 10, NUMBERS = 16 };
 
 static const char *const call_name[CALLS] = {"open", "ballot", "advance", "advance_lent", "result"};
 static uint8_t some_row[LONGEST_ROW];
@@ -28,7 +28,7 @@ static uint64_t state_of(const struct call *c)
 /* ---- The lent station ---- */
 
 /* What the lent call is said to answer if it writes what it must not. */
-enum { NUMBERS_WRITTEN = 15, WRITTEN_BESIDE = 16, OTHER_AT_END = 17, OTHER_READ_ONLY = 18 };
+enum { NUMBERS_WRITTEN = 101, WRITTEN_BESIDE, OTHER_AT_END, OTHER_READ_ONLY };
 
 static struct guarded lent_page;
 static uint8_t *untouched; /* a copy of the page */

@@ -12,7 +12,9 @@
 
 #include <ucontext.h>
 
-enum { STACK = 65536, ROOM = 512 };
+/* Painted is what lies beside a call, and twice its limit: one that needs more is
+   told, and has the rest of the stack. */
+enum { STACK = 1 << 20, ROOM = 512, BESIDE = 8192, TIMES = 2 };
 
 static uint8_t stack[STACK];
 static ucontext_t here, there;
@@ -30,12 +32,8 @@ static void on_stack(void)
     room[ROOM - 1] = room[0];
 }
 
-/* The bytes from the stack's top down to the last that isn't paint. */
-static size_t depth(void (*run)(void), uint8_t paint)
+static void enter_stack(void)
 {
-    size_t left = 0;
-    memset(stack, paint, STACK);
-    running = run;
     if (getcontext(&there) != 0)
         exit(2);
     there.uc_stack.ss_sp = stack;
@@ -44,15 +42,25 @@ static size_t depth(void (*run)(void), uint8_t paint)
     makecontext(&there, on_stack, 0);
     if (swapcontext(&here, &there) != 0)
         exit(2);
-    while (left < STACK && stack[left] == paint)
-        left++;
-    return STACK - left;
+}
+
+/* The bytes from the stack's top down to the last that isn't paint, of so many
+   that are painted. */
+static size_t depth(void (*run)(void), uint8_t paint, size_t painted)
+{
+    size_t left = painted;
+    memset(stack + STACK - painted, paint, painted);
+    running = run;
+    enter_stack();
+    while (left > 0 && stack[STACK - left] == paint)
+        left--;
+    return left;
 }
 
 /* A stored byte differs from one of the two paints. */
-static size_t deepest(void (*run)(void))
+static size_t deepest(void (*run)(void), size_t painted)
 {
-    size_t one = depth(run, 0xa5), other = depth(run, 0x5a);
+    size_t one = depth(run, 0xa5, painted), other = depth(run, 0x5a, painted);
     return one > other ? one : other;
 }
 
@@ -70,8 +78,9 @@ static const struct rehearse_input *rehearsing;
 static const struct check_input *checking;
 static const struct exchange_input *exchanging;
 static uint8_t row[INPUTS], header[HEADER + RECORD], sheet[SHEET + RECORD];
-static uint8_t table[TABLE], logged[TABLE], outcomes[OUTCOMES];
+static uint8_t table[TABLES], logged[TABLES], outcomes[OUTCOMES];
 static size_t sheet_len;
+static uint8_t bit;
 static uint32_t number; /* what the call is answered by */
 
 #define NUMBERS (uint8_t)c.n, (uint8_t)c.t, (uint8_t)c.T, (uint8_t)c.sender, (uint8_t)c.own
@@ -107,6 +116,11 @@ static void read_sheet(void)
     number = vembopu_read(sheet, sheet_len, table, reading->table_len);
 }
 
+static void read_bit(void)
+{
+    number = vembopu_read_bit(sheet, sheet_len, bit, table, table_of_bit(reading));
+}
+
 static void sheet_bytes(void)
 {
     number = vembopu_refusal(vembopu_sheet_len(header, writing->header_len, table, writing->table_len));
@@ -121,7 +135,7 @@ static void write_sheet(void)
 static void rehearse(void)
 {
     const struct rehearse_input *i = rehearsing;
-    number = vembopu_rehearse(i->n, i->t, i->T, i->sender, i->value, i->marks, table, i->table_len, logged,
+    number = vembopu_rehearse(i->n, i->t, i->T, i->sender, i->value, i->w, i->marks, table, i->table_len, logged,
                               i->log_len, outcomes, i->outcomes_len);
 }
 
@@ -150,6 +164,7 @@ static struct measured {
     {"vembopu_result", result, VEMBOPU_STACK_RESULT, 0, 0, 0, 0},
     {"vembopu_advance_lent", advance_lent, VEMBOPU_STACK_ADVANCE_LENT, 0, 0, 0, 0},
     {"vembopu_read", read_sheet, VEMBOPU_STACK_READ, 0, 0, 0, 0},
+    {"vembopu_read_bit", read_bit, VEMBOPU_STACK_READ_BIT, 0, 0, 0, 0},
     {"vembopu_sheet_len", sheet_bytes, VEMBOPU_STACK_SHEET_LEN, 0, 0, 0, 0},
     {"vembopu_write", write_sheet, VEMBOPU_STACK_WRITE, 0, 0, 0, 0},
     {"vembopu_rehearse", rehearse, VEMBOPU_STACK_REHEARSE, 0, 0, 0, 0},
@@ -157,7 +172,7 @@ static struct measured {
     {"vembopu_exchange", exchange, VEMBOPU_STACK_EXCHANGE, 0, 0, 0, 0},
 };
 
-enum { OPEN, BALLOT, ADVANCE, RESULT, LENT, READ, SHEET_LEN, WRITE, REHEARSE, CHECK, EXCHANGE };
+enum { OPEN, BALLOT, ADVANCE, RESULT, LENT, READ, READ_BIT, SHEET_LEN, WRITE, REHEARSE, CHECK, EXCHANGE };
 
 /* ---- Measuring ---- */
 
@@ -167,8 +182,9 @@ enum { OPEN, BALLOT, ADVANCE, RESULT, LENT, READ, SHEET_LEN, WRITE, REHEARSE, CH
 static void measure(int which, int want)
 {
     struct measured *m = &calls[which];
+    size_t painted = BESIDE + TIMES * m->limit;
     m->run();
-    size_t need = deepest(m->run) - deepest(nothing);
+    size_t need = deepest(m->run, painted) - deepest(nothing, painted);
     m->most = need > m->most ? need : m->most;
     m->wrong += number != (uint32_t)want;
     m->accepted += number == 0;
@@ -212,13 +228,18 @@ static void stations(void)
         stations_of(lines[i]);
 }
 
+/* All bits, the last one, and one that the sheet hasn't. */
 static void sheets(void)
 {
     for (size_t i = 0; i < COUNT(read_inputs); i++) {
         reading = &read_inputs[i];
-        sheet_len = make_sheet(sheet, reading->k) + reading->more;
+        sheet_len = make_sheet(sheet, reading->w, reading->k) + reading->more;
         sheet[reading->at] = reading->byte;
         measure(READ, reading->number);
+        bit = (uint8_t)(vembopu_bits(reading->w) - 1);
+        measure(READ_BIT, number_of_bit(reading, bit));
+        bit++;
+        measure(READ_BIT, number_of_bit(reading, bit));
     }
 }
 
@@ -226,10 +247,10 @@ static void writings(void)
 {
     for (size_t i = 0; i < COUNT(write_inputs); i++) {
         writing = &write_inputs[i];
-        make_sheet(sheet, 1);
+        make_sheet(sheet, writing->w, 1);
         memcpy(header, sheet, sizeof header);
         header[writing->at] = writing->byte;
-        make_table(table, writing->k);
+        make_table(table, writing->w, writing->k);
         measure(WRITE, writing->number);
         measure(SHEET_LEN, refused_by_sheet(writing) ? 0 : writing->number);
     }
@@ -250,7 +271,7 @@ static void checks(void)
 {
     for (size_t i = 0; i < 2 * COUNT(check_inputs); i++) {
         checking = &check_inputs[i / 2];
-        vembopu_rehearse(32, 10, 10, 1, 1, 0, table, TABLE, logged, TABLE, outcomes, OUTCOMES);
+        vembopu_rehearse(32, 10, 10, 1, 1, 1, 0, table, TABLE, logged, TABLE, outcomes, OUTCOMES);
         if (i % 2 == 1)
             memset(logged, 7, sizeof logged);
         measure(CHECK, checking->number);

@@ -13,7 +13,8 @@
  *
  *     bad       a station that at any time of a run, for whatever reason,
  *               doesn't keep to it; otherwise it is good
- *     value     a bit: 0 keeps the old recipe, 1 changes over
+ *     value     a bit: 0 keeps the old recipe, 1 changes over; or one bit of a
+ *               recipe's number
  *     round     each station sends at most one byte to all and receives what
  *               the others send. A run has R = 3t + 6 rounds, counted from 1
  *     ballot    the byte that is sent: 0, 1, or 2, blank, which counts for
@@ -46,6 +47,9 @@
  *     when result says done: value, grade, flag and the count of garbled
  *     rounds.
  *
+ * A number of up to eight bits is agreed on by a station for each bit, all with
+ * the same five numbers: README.md, "A recipe number".
+ *
  * What a controller owes these calls on the wire, and what to do with value,
  * grade, flag and count: README.md, "On the wire".
  *
@@ -75,8 +79,8 @@
  * tell theirs: take them and the headers from one version.
  */
 #define VEMBOPU_VERSION_MAJOR 1
-#define VEMBOPU_VERSION_MINOR 4
-#define VEMBOPU_VERSION "1.4"
+#define VEMBOPU_VERSION_MINOR 5
+#define VEMBOPU_VERSION "1.5"
 
 #ifdef __cplusplus
 extern "C" {
@@ -104,14 +108,15 @@ static inline int vembopu_rounds(uint8_t t)
 enum {
     VEMBOPU_ACCEPTED = 0,
     VEMBOPU_BAD_SHEET = 1,        /* sheet_len not 12 + 8k with k from 0 to
-                                     4,096, a header to be written not of 12
-                                     bytes, or byte 5 not zero */
+                                     4,096, or a header to be written not of
+                                     12 bytes */
     VEMBOPU_BAD_N = 2,            /* n outside 1 to 32 */
     VEMBOPU_BAD_THRESHOLDS = 3,   /* t above upper, or t + 2*upper not
                                      below n */
     VEMBOPU_BAD_NUMBER = 4,       /* sender or own outside 1 to n */
-    VEMBOPU_BAD_VALUE = 5,        /* value, or an unmarked station's input, not
-                                     0 or 1 */
+    VEMBOPU_BAD_VALUE = 5,        /* a number of 2 to the power w or above; a
+                                     station's value, or an unmarked station's
+                                     input, not 0 or 1 */
     VEMBOPU_BAD_MARKS = 6,        /* a mark beyond station n */
     VEMBOPU_BAD_STATE = 7,        /* round outside 1 to R + 1, value above 1, z
                                      or grade above 2, garbled not below round;
@@ -123,12 +128,16 @@ enum {
     VEMBOPU_CHAIN_LEAVES = 9,     /* the chain reaches an index above k */
     VEMBOPU_CHAIN_REPEATS = 10,   /* the chain reaches a record again */
     VEMBOPU_BAD_RECORD = 11,      /* round outside 1 to R, a station outside 1
-                                     to n, or its last two bytes not zero */
+                                     to n, a bit not below w, or the last byte
+                                     not zero; or a bit to be read not below
+                                     w */
     VEMBOPU_UNMARKED_SENDER = 12, /* a record's from is not marked */
     VEMBOPU_DUPLICATE = 13,       /* an earlier chained record has the same
-                                     round, from and to */
-    VEMBOPU_TOO_MANY_RECORDS = 14 /* more than 4,096 records are to be
+                                     bit, round, from and to */
+    VEMBOPU_TOO_MANY_RECORDS = 14,
+                                  /* more than 4,096 records are to be
                                      written */
+    VEMBOPU_BAD_WIDTH = 15        /* w above 8 */
 };
 
 /*

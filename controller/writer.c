@@ -1,8 +1,8 @@
 /*
  * The writer of run sheets through C: every refusal of vembopu_sheet_len and
  * vembopu_write, alone and in pairs; headers and tables by lot against the
- * writer written once more (model.h); what is written is read back, and written
- * again. Every buffer ends where a page begins that can't be touched; what is
+ * writer written once more (model.h); what is written is read back, all bits at
+ * once and bit by bit, and written again. Every buffer ends where a page begins that can't be touched; what is
  * only read, and in a refused call the sheet too, stands on pages that can only
  * be read.
  */
@@ -12,8 +12,8 @@
 #include "inputs.h"
 #include "model.h"
 
-enum { LONGEST_HEADER = HEADER + RECORD, LONGEST_SHEET = SHEET + RECORD, LONGEST_TABLE = TABLE + 1 };
-enum { UNWRITTEN = 170, BLOCK = 1000, BLOCKS = 12, NUMBERS = 15 };
+enum { LONGEST_HEADER = HEADER + RECORD, LONGEST_SHEET = SHEET + RECORD, LONGEST_TABLE = TABLES + 1 };
+enum { UNWRITTEN = 170, BLOCK = 1000, BLOCKS = 12, NUMBERS = 16 };
 
 /* ---- One call ---- */
 
@@ -46,10 +46,10 @@ static int told(const char *name, const struct writing *w, uint64_t got, uint64_
 {
     static int times;
     if (times++ < MOST_TOLD)
-        printf("%s, header of %lu, n %d t %d T %d, table of %lu, sheet of %lu: %llx, not %llx, or other bytes\n", name,
-               (unsigned long)w->header_len, w->header ? w->header[0] : -1, w->header ? w->header[1] : -1,
-               w->header ? w->header[2] : -1, (unsigned long)w->table_len, (unsigned long)w->sheet_len,
-               (unsigned long long)got, (unsigned long long)want);
+        printf("%s, header of %lu, n %d t %d T %d w %d, table of %lu, sheet of %lu: %llx, not %llx, or other bytes\n",
+               name, (unsigned long)w->header_len, w->header ? w->header[0] : -1, w->header ? w->header[1] : -1,
+               w->header ? w->header[2] : -1, w->header ? w->header[5] : -1, (unsigned long)w->table_len,
+               (unsigned long)w->sheet_len, (unsigned long long)got, (unsigned long long)want);
     return 0;
 }
 
@@ -92,7 +92,7 @@ static void copy(struct draft *to, const struct draft *from)
 /* A record more: the first byte of silence gets a ballot. */
 static void add_record(struct draft *d)
 {
-    uint8_t *silent = memchr(d->table, 255, TABLE);
+    uint8_t *silent = memchr(d->table, 255, d->w.table_len);
     if (silent != NULL)
         *silent = 1;
 }
@@ -106,8 +106,8 @@ static void add_record(struct draft *d)
 FAULT(header_short, d->w.header_len = HEADER - 1)
 FAULT(header_sheet, d->w.header_len = HEADER + RECORD)
 FAULT(header_null, d->w.header = NULL; d->w.header_len = 0)
-FAULT(byte_5, d->header[5] = 1)
-FAULT(byte_5_255, d->header[5] = 255)
+FAULT(w_9, d->header[5] = 9)
+FAULT(w_255, d->header[5] = 255)
 FAULT(n_0, d->header[0] = 0)
 FAULT(n_33, d->header[0] = 33)
 FAULT(n_255, d->header[0] = 255)
@@ -117,12 +117,13 @@ FAULT(sum_256, d->header[1] = 2; d->header[2] = 127)
 FAULT(sum_512, d->header[1] = 170; d->header[2] = 171)
 FAULT(sender_0, d->header[3] = 0)
 FAULT(sender_above, d->header[3] = (uint8_t)after(d->header[0]))
-FAULT(value_2, d->header[4] = 2)
+FAULT(value_above, d->header[4] = (uint8_t)(1 << vembopu_bits(base.header[5])))
 FAULT(value_255, d->header[4] = 255)
 FAULT(mark_above, d->header[8 + base.header[0] / 8] |= (uint8_t)(1 << base.header[0] % 8))
 FAULT(mark_32, d->header[11] |= 128)
 FAULT(table_short, d->w.table_len = base.w.table_len - 1)
 FAULT(table_long, d->w.table_len = base.w.table_len + 1)
+FAULT(table_of_bit_0, d->w.table_len = table_bytes(base.header))
 FAULT(table_null, d->w.table = NULL; d->w.table_len = 0)
 FAULT(record_more, add_record(d))
 FAULT(sheet_short, d->w.sheet_len = base.w.sheet_len - 1)
@@ -131,7 +132,7 @@ FAULT(sheet_record, d->w.sheet_len = base.w.sheet_len + RECORD)
 FAULT(sheet_null, d->w.sheet_len = 0)
 
 /* In the order of refusals; which lines each is for. */
-enum { ANY, BELOW_32, FULL };
+enum { ANY, BELOW_32, BELOW_8_BITS, SEVERAL_BITS, FULL };
 
 static const struct fault {
     const char *what;
@@ -141,8 +142,8 @@ static const struct fault {
     {"header of 11", 1, ANY, header_short},
     {"header of 20", 1, ANY, header_sheet},
     {"header NULL", 1, ANY, header_null},
-    {"byte 5 is 1", 1, ANY, byte_5},
-    {"byte 5 is 255", 1, ANY, byte_5_255},
+    {"w 9", 15, ANY, w_9},
+    {"w 255", 15, ANY, w_255},
     {"n 0", 2, ANY, n_0},
     {"n 33", 2, ANY, n_33},
     {"n 255", 2, ANY, n_255},
@@ -152,12 +153,13 @@ static const struct fault {
     {"t + 2T = 512", 3, ANY, sum_512},
     {"sender 0", 4, ANY, sender_0},
     {"sender n+1", 4, ANY, sender_above},
-    {"value 2", 5, ANY, value_2},
-    {"value 255", 5, ANY, value_255},
+    {"2 to the power w", 5, BELOW_8_BITS, value_above},
+    {"value 255", 5, BELOW_8_BITS, value_255},
     {"a mark at n+1", 6, BELOW_32, mark_above},
     {"a mark at 32", 6, BELOW_32, mark_32},
     {"table short", 8, ANY, table_short},
     {"table long", 8, ANY, table_long},
+    {"table of one bit", 8, SEVERAL_BITS, table_of_bit_0},
     {"table NULL", 8, ANY, table_null},
     {"4,097 records", 14, FULL, record_more},
     {"sheet short", 8, ANY, sheet_short},
@@ -166,8 +168,15 @@ static const struct fault {
     {"sheet NULL", 8, ANY, sheet_null},
 };
 
-/* A table of `k` ballots where all stations are marked, and its needed sheet. */
-static void make_base(uint8_t n, uint8_t t, uint8_t T, size_t k)
+static void put_marks(uint8_t *header, uint32_t marks)
+{
+    for (int i = 0; i < 4; i++)
+        header[8 + i] = (uint8_t)(marks >> 8 * i & 255);
+}
+
+/* Tables of w bits with k ballots, spread over them, where all stations are
+   marked, and their needed sheet. */
+static void make_base(uint8_t n, uint8_t t, uint8_t T, uint8_t w, size_t k)
 {
     static const uint8_t header[HEADER] = {0, 0, 0, 1, 1, 0, 255, 255, 0, 0, 0, 0};
     memset(&base, 0, sizeof base);
@@ -175,26 +184,39 @@ static void make_base(uint8_t n, uint8_t t, uint8_t T, size_t k)
     base.header[0] = n;
     base.header[1] = t;
     base.header[2] = T;
-    for (int i = 0; i < n; i++)
-        base.header[8 + i / 8] |= (uint8_t)(1 << i % 8);
-    make_table(base.table, k);
-    struct writing w = {base.header, HEADER, base.table, (size_t)rounds(t) * n * n, HEADER + RECORD * k};
-    base.w = w;
+    base.header[5] = w;
+    put_marks(base.header, 0xffffffffu >> (32 - n));
+    size_t len = tables_bytes(base.header);
+    memset(base.table, 255, sizeof base.table);
+    for (size_t i = 0; i < k; i++)
+        base.table[i * len / k] = (uint8_t)(i % 3);
+    base.w = (struct writing){base.header, HEADER, base.table, len, HEADER + RECORD * k};
 }
 
 static int is_for(const struct fault *f)
 {
-    int full = base.w.sheet_len == SHEET, below_32 = base.header[0] < 32;
-    return f->lines == ANY || (f->lines == BELOW_32 ? below_32 : full);
+    int bits = vembopu_bits(base.header[5]);
+    switch (f->lines) {
+    case BELOW_32:
+        return base.header[0] < 32;
+    case BELOW_8_BITS:
+        return bits < 8;
+    case SEVERAL_BITS:
+        return bits > 1;
+    case FULL:
+        return base.w.sheet_len == SHEET;
+    default:
+        return 1;
+    }
 }
 
 /* The number of the first fault, of the model and of both calls. */
 static void refused(const struct draft *d, const struct fault *a, const char *b)
 {
     int number = (int)vembopu_refusal(model_write(&d->w, wanted));
-    check(number == a->number, "n %d, %s, %s: the model gives %d, not %d", base.header[0], a->what, b, number,
-          a->number);
-    check(agrees(&d->w), "n %d, %s, %s", base.header[0], a->what, b);
+    check(number == a->number, "n %d, w %d, %s, %s: the model gives %d, not %d", base.header[0], base.header[5],
+          a->what, b, number, a->number);
+    check(agrees(&d->w), "n %d, w %d, %s, %s", base.header[0], base.header[5], a->what, b);
 }
 
 static void faults_of(const struct fault *a)
@@ -214,12 +236,15 @@ static void faults_of(const struct fault *a)
 static void all_faults(void)
 {
     static const struct {
-        uint8_t n, t, T;
+        uint8_t n, t, T, w;
         size_t k;
-    } lines[] = {{1, 0, 0, 0}, {4, 1, 1, 77}, {31, 10, 10, 3000}, {32, 10, 10, MOST_RECORDS}, {32, 0, 15, 1}};
+    } lines[] = {{1, 0, 0, 0, 0},       {1, 0, 0, 8, 48},      {4, 1, 1, 1, 77},
+                 {4, 1, 1, 3, 300},     {31, 10, 10, 0, 3000}, {32, 10, 10, 0, MOST_RECORDS},
+                 {32, 10, 10, 8, 4096}, {32, 0, 15, 2, 1}};
     for (size_t i = 0; i < COUNT(lines); i++) {
-        make_base(lines[i].n, lines[i].t, lines[i].T, lines[i].k);
-        check(vembopu_refusal(model_write(&base.w, wanted)) == 0 && agrees(&base.w), "n %d: refused", lines[i].n);
+        make_base(lines[i].n, lines[i].t, lines[i].T, lines[i].w, lines[i].k);
+        check(vembopu_refusal(model_write(&base.w, wanted)) == 0 && agrees(&base.w), "n %d, w %d: refused",
+              lines[i].n, lines[i].w);
         for (const struct fault *a = faults; a < faults + COUNT(faults); a++)
             if (is_for(a))
                 faults_of(a);
@@ -228,7 +253,7 @@ static void all_faults(void)
 
 /* ---- Read back ---- */
 
-static uint8_t read_table[TABLE], first[SHEET], second[SHEET];
+static uint8_t read_table[TABLES], one_bit[TABLE], first[SHEET], second[SHEET];
 
 /* By the header's own way: the length is asked for, then that many bytes are
    written. A length that is refused has the writer refused by the same number. */
@@ -252,6 +277,19 @@ static int same_table(const struct writing *w)
     return same;
 }
 
+/* 1 if each bit that is read alone is its part of the table that was read; one
+   that isn't there is refused. */
+static int same_bits(const uint8_t *sheet, size_t len)
+{
+    size_t size = table_bytes(sheet);
+    int same = 1, bits = bits_of(sheet[5]);
+    for (int b = 0; b < bits; b++) {
+        same = same && vembopu_read_bit(sheet, len, (uint8_t)b, one_bit, size) == 0;
+        same = same && memcmp(one_bit, read_table + (size_t)b * size, size) == 0;
+    }
+    return same && vembopu_read_bit(sheet, len, (uint8_t)bits, one_bit, size) == 11;
+}
+
 /* 1 if what is written is read with the header's numbers and the table, and
    written again byte for byte; also if nothing is written. */
 static int reads_back(const struct writing *w)
@@ -263,6 +301,7 @@ static int reads_back(const struct writing *w)
     size_t len = HEADER + RECORD * vembopu_records(made);
     same = same && vembopu_read(first, len, read_table, w->table_len) == 0 && same_table(w);
     same = same && memcmp(first, w->header, 6) == 0 && memcmp(first + 8, w->header + 8, 4) == 0;
+    same = same && same_bits(first, len);
     struct writing back = {first, HEADER, read_table, w->table_len, len};
     return same && write_asked(&back, second, &again) && again == made && memcmp(first, second, len) == 0;
 }
@@ -283,8 +322,9 @@ static void draw_numbers(uint8_t *header)
     header[1] = (uint8_t)draw((rest < T ? rest : T) + 1 + (draw(16) == 0));
     header[2] = (uint8_t)T;
     header[3] = (uint8_t)(draw(16) == 0 ? draw(256) : 1 + draw(n));
-    header[4] = (uint8_t)(draw(16) == 0 ? draw(256) : draw(2));
-    header[5] = (uint8_t)(draw(16) == 0 ? draw(256) : 0);
+    uint32_t w = draw(3) == 0 ? draw(9) : draw(3);
+    header[4] = (uint8_t)(draw(16) == 0 ? draw(256) : draw((uint32_t)1 << bits_of((int)w)));
+    header[5] = (uint8_t)(draw(16) == 0 ? draw(256) : w);
 }
 
 /* None, some, most or all of the stations; a mark beyond n now and then. */
@@ -294,20 +334,19 @@ static void draw_marks(uint8_t *header)
     uint32_t marks = kinds[draw(4)];
     if (header[0] < 32 && draw(16) != 0)
         marks &= ((uint32_t)1 << header[0]) - 1;
-    for (int i = 0; i < 4; i++)
-        header[8 + i] = (uint8_t)(marks >> 8 * i & 255);
+    put_marks(header, marks);
 }
 
 /* Any bytes, ballots, or silence with a ballot here and there. */
 static void draw_table(struct draft *d)
 {
     static const uint8_t ballot[] = {0, 1, 2, 255};
-    size_t exact = (size_t)rounds(d->header[1]) * d->header[0] * d->header[0];
+    size_t exact = tables_bytes(d->header);
     const size_t other[] = {exact + 1, exact - 1, draw(300)};
     uint32_t kind = draw(3);
     size_t len = draw(16) == 0 ? other[draw(3)] : exact;
     d->w.table = d->table;
-    d->w.table_len = len > LONGEST_TABLE ? LONGEST_TABLE : len;
+    d->w.table_len = len > LONGEST_TABLE ? draw(300) : len;
     for (size_t i = 0; i < d->w.table_len; i++)
         d->table[i] = (uint8_t)(kind == 0 ? draw(256) : kind == 1 ? ballot[draw(4)] : draw(30) == 0 ? draw(256) : 255);
 }
@@ -350,7 +389,7 @@ static void all_met(void)
 {
     static const char *const name[] = {"vembopu_sheet_len", "vembopu_write"};
     for (int call = 0; call < 2; call++)
-        check_met(name[call], met[call], NUMBERS, "0 1 2 3 4 5 6 8 14");
+        check_met(name[call], met[call], NUMBERS, "0 1 2 3 4 5 6 8 14 15");
 }
 
 int main(void)

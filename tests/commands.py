@@ -15,12 +15,14 @@ import tempfile
 import time
 
 import examples
+import sheet as sheets
 from counting import closing
 from model import OUTCOME
 
 TOP = pathlib.Path(__file__).resolve().parent.parent
 AGREE, LISTING = TOP / "examples" / "a.sheet", (TOP / "examples" / "a.listing").read_bytes()
 UNTIDY, TIDY = TOP / "examples" / "untidy.sheet", (TOP / "examples" / "tidy.sheet").read_bytes()
+RECIPE, WIDEST = ({end: (TOP / "examples" / f"{name}.{end}").read_bytes() for end in ("sheet", "text", "listing")} for name in ("recipe", "widest"))
 LINE, FILES = ("5", "1", "1", "2"), ("examples/foreign.log", "examples/foreign.outcomes")
 LOG, OUTCOMES, BROKE = ((TOP / "examples" / f"foreign.{end}").read_bytes() for end in ("log", "outcomes", "broke"))
 # those of one file or standard input; ./audit has its own trials
@@ -77,6 +79,26 @@ def inputs(folder):
     yield "and what is said of it", Ran("linked", odd, top=folder).gives(1, b"refused 1\n", f"agree: {re.escape(str(odd))}: refused 1: .*\nagree: it has 11 bytes\n")
 
 
+def numbers(folder):
+    """Sheets of several bits, through each command; the widths 0 and 1 are the same."""
+    for name, made in ("recipe", RECIPE), ("widest", WIDEST):
+        yield f"{name}: agree", Ran("agree", f"examples/{name}.sheet").gives(0, made["listing"])
+        yield f"{name}: rewrite", Ran("rewrite", f"examples/{name}.sheet").gives(0, sheets.rewritten(made["sheet"])[1])
+        yield f"{name}: sheet", Ran("sheet", f"examples/{name}.text").gives(0, made["sheet"])
+        yield f"{name}: text, then sheet", in_shell(f"./text examples/{name}.sheet | ./sheet").stdout == made["sheet"]
+        yield f"{name}: rewrite, then agree", in_shell(f"./rewrite examples/{name}.sheet | ./agree").stdout == made["listing"]
+        picture = Ran("draw", f"examples/{name}.sheet")
+        yield f"{name}: draw", picture.status == 0 and picture.out.startswith(b"<svg ") and picture.out.endswith(b"</svg>\n")
+        yield f"{name}: its text is no sheet", "it looks like a text: " in Ran("agree", f"examples/{name}.text").said
+    one_bit = AGREE.read_bytes()
+    for w in 0, 1:
+        yield f"case A with w {w}", Ran("agree", input=one_bit[:5] + bytes([w]) + one_bit[6:]).gives(0, LISTING)
+    (folder / "records").write_text("\n bit 0 round 1 from 1 to 1 ballot 0\n")
+    yield "a text that begins with a record of a bit", "it looks like a text: " in Ran("agree", folder / "records").said
+    (folder / "width").write_text("w 2\n")
+    yield "a text that begins with w", "it looks like a text: " in Ran("agree", folder / "width").said
+
+
 def refusals(folder):
     """Each cause that a sheet can have: the number to standard output, and the cause in words to standard error."""
     told, file = causes(), folder / "refused.sheet"
@@ -100,7 +122,7 @@ def refusals(folder):
 def documented():
     rows = dict(re.findall(r"^\| (\d+) \| (.*) \|$", (TOP / "README.md").read_text(encoding="utf-8"), re.M))
     yield "README.md has the causes in the same words", rows == causes()
-    yield "the causes 1 to 14 and no others", [int(number) for number in causes()] == list(range(1, 15))
+    yield "the causes 1 to 15 and no others", [int(number) for number in causes()] == list(range(1, 16))
 
 
 # ---- trouble with the streams
@@ -189,7 +211,7 @@ def audited(folder):
     for file, content in zip(odd, (LOG, OUTCOMES)):
         file.write_bytes(content)
     os.symlink(TOP / "audit", folder / "linked")
-    log, outcomes = examples.logged(examples.run_of((TOP / "examples" / "d.sheet").read_bytes())[1])
+    log, outcomes = examples.logged(examples.runs_of((TOP / "examples" / "d.sheet").read_bytes())[1][0])
     for name, content in ("d.log", log), ("d.outcomes", outcomes):
         (folder / name).write_bytes(content)
     yield "audit: a log", Ran("audit", *LINE, *FILES).gives(0, BROKE)
@@ -512,7 +534,7 @@ def pasted(folder):
 
 
 def checks():
-    trials = [inputs, refusals, troubles, audited, audits_refused, audit_troubles, building, failing, interrupts, at_once, identified, pasted]
+    trials = [inputs, numbers, refusals, troubles, audited, audits_refused, audit_troubles, building, failing, interrupts, at_once, identified, pasted]
     for trial in trials:
         with tempfile.TemporaryDirectory() as folder:
             yield from trial(pathlib.Path(folder).resolve())

@@ -1,10 +1,12 @@
 #!/usr/bin/env python3
-"""For each must-fail edit of the definitions of crates broadcast and rules: a run or a log in which what is edited breaks a theorem.
+"""For each must-fail edit of the definitions of crates broadcast and rules: a run or a log in which what is edited breaks a theorem. The same for wrong readings of
+request 5, numbers of several bits.
 
 The prover refuses each edit. This test shows that it is right to: it runs the documents' steps, and the same steps
 with the edit, on small lines with random bad stations, and looks for a run that breaks a statement of
 crates/broadcast/specs/Theorems.antt; and it asks who broke the rules, and the same with the edit, by logs of such runs
-and by changed ones, and looks for a log that breaks a statement of crates/rules/specs/Theorems.antt. What the documents
+and by changed ones, and looks for a log that breaks a statement of crates/rules/specs/Theorems.antt. It runs numbers bit by
+bit, and looks for a run that breaks demand 3 of the number, or what its outcome and log have of the bits'. What the documents
 say must break none; each edit must break one. An edit may also break what no statement has but request 4: which rounds
 count, byte by byte. Stations are counted from 0 and rounds from 1, as in the definitions. Prints a line for each check.
 """
@@ -12,8 +14,8 @@ import pathlib
 import random
 import sys
 
-from model import (BLANK, FIRST, GARBLED, KING, OUTCOME, SECOND, SENDER, SILENCE, Keeping, Rules, Run, Station, bit_or, broadcast, broke, exchange, garbled,
-                   garbled_alone, kind_of, log_of, one_of, received, run_markings)
+from model import (BLANK, FIRST, GARBLED, KING, OUTCOME, SECOND, SENDER, SILENCE, Keeping, Numbers, Rules, Run, Station, bit_or, broadcast, broke, exchange,
+                   garbled, garbled_alone, kind_of, log_of, number_broadcast, one_of, received, run_markings, runs_of_bits)
 
 CRATES = pathlib.Path(__file__).resolve().parent.parent / "crates"
 
@@ -58,11 +60,11 @@ def random_run(rng, n, t, T):
     return Run(n, t, T, sender, value, bad, rng.choices((0, 1, BLANK, SILENCE, 7), weights, k=(3 * t + 6) * n * n))
 
 
-def broken_guarantee(run, outcomes):
+def broken_guarantee(run, outcomes, bits=1):
     """Demand 3 of the outcome bytes."""
     decided = {outcomes[i][0] for i in run.good}
     flags = [outcomes[i][2] for i in run.good]
-    if not decided <= {0, 1} or not set(flags) <= {0, 1}:
+    if not decided <= set(range(2 ** bits)) or not set(flags) <= {0, 1}:
         return "Demand-3, range"
     if run.f <= run.t and len(decided) > 1:
         return "Demand-3, agreement"
@@ -251,7 +253,62 @@ def search_logs(keeping, tries):
     return None
 
 
-# ---- both crates
+# ---- numbers of several bits
+
+
+NUMBERS = {
+    "bit_0_highest": edited(Numbers, number=lambda values: sum(value << b for b, value in enumerate(reversed(values)))),
+    "every_bit_in_part_0": edited(Numbers, part=lambda tables, size, b: tables[:size]),
+    "flag_of_last_bit": edited(Numbers, flag=lambda flags: flags[-1]),
+    "grade_the_largest": edited(Numbers, grade=max),
+    "count_the_smallest": edited(Numbers, count=min),
+    "count_the_sum": edited(Numbers, count=sum),
+}
+
+
+def random_number(rng):
+    """A line with its number, and the table of each bit."""
+    n, t, T = rng.choice([(n, t, T) for n in range(1, 6) for T in range(n) for t in range(T + 1) if t + 2 * T < n])
+    runs = [random_run(rng, n, t, T) for _ in range(rng.randint(1, 3))]
+    number = rng.randrange(2 ** len(runs))
+    return Run(n, t, T, runs[0].sender, number, runs[0].bad, []), [run.table for run in runs]
+
+
+def broken_bits(run, ends, log, outcomes):
+    """What a number's outcomes and log have of its bits' own."""
+    size = len(log) // len(ends)
+    for b, (of_bit, decided) in enumerate(ends):
+        if log[b * size:(b + 1) * size] != of_bit:
+            return "Bit-buffers"
+        for i in run.good:
+            if outcomes[i][0] >> b & 1 != decided[i][0] or outcomes[i][1] > decided[i][1] or outcomes[i][3] < decided[i][3]:
+                return "Number-outcome-bytes"
+    if any(outcomes[i][2] != (outcomes[i][1] < 2) or outcomes[i][3] not in [decided[i][3] for _, decided in ends] for i in run.good):
+        return "Number-outcome-bytes"
+    return None
+
+
+def broken_number(numbers, run, tables):
+    """Demand 3 of a number, and the bits' own runs, each with its own table and that bit of the number."""
+    bits = [Run(run.n, run.t, run.T, run.sender, run.value >> b & 1, run.bad, table) for b, table in enumerate(tables)]
+    ends = [(log_of(Rules, bit, said), decided) for bit, (said, decided) in ((bit, broadcast(Rules, bit)) for bit in bits)]
+    laid = [byte for table in tables for byte in table]
+    log, outcomes = number_broadcast(runs_of_bits(run.n, run.t, run.T, run.sender, run.value, len(tables), run.bad, laid, numbers), numbers=numbers)
+    return broken_guarantee(run, outcomes, len(tables)) or broken_bits(run, ends, log, outcomes)
+
+
+def search_numbers(numbers, tries):
+    """The first statement broken by some hundreds of numbers, with its run."""
+    rng = random.Random(5)
+    for _ in range(tries):
+        run, tables = random_number(rng)
+        found = broken_number(numbers, run, tables)
+        if found:
+            return found, f"{run}, {len(tables)} bits"
+    return None
+
+
+# ---- all of them
 
 
 def told(name, found, none):
@@ -279,6 +336,8 @@ def main():
     results += of_edits("broadcast", EDITED, lambda rules: search(rules, demand_3, 4000) or search(rules, any_theorem, 40000))
     results += [told("who broke the rules, as request 3 has it", search_logs(Keeping, 400), "400 logs")]
     results += of_edits("rules", KEEPING, lambda keeping: search_logs(keeping, 2000))
+    results += [told("numbers, as request 5 has it", search_numbers(Numbers, 2000), "2000 numbers")]
+    results += [told(name, search_numbers(numbers, 2000), "") for name, numbers in NUMBERS.items()]
     print(f"{results.count(True)} passed, {results.count(False)} failed")
     return not all(results)
 

@@ -1,9 +1,9 @@
 #!/usr/bin/env python3
 """The examples: run sheets, each with the text that it stands for and its listing; logs with outcomes, each with the stations that broke the rules.
 
-examples.py          writes the sheets and listings of examples/: the documents' cases A to D, a line with garbled ballots and silence, a large run in which
-                     ten bad stations divide the good ones, the longest listing, and an untidy sheet beside the tidy one that it is rewritten to. The texts
-                     are written by hand, the picture of case C by ./draw. Then the logs and outcomes, of case A's run and of another maker's, with what the
+examples.py          writes the sheets and listings of examples/: the documents' cases A to D, a line with garbled ballots and silence, a recipe number with
+                     a liar in one bit, the largest number beside a bad station, a large run in which ten bad stations divide the good ones, the longest
+                     listing, and an untidy sheet beside the tidy one that it is rewritten to. The texts are written by hand, the picture of case C by ./draw. Then the logs and outcomes, of case A's run and of another maker's, with what the
                      program audit prints of them
 examples.py --check  holds each sheet to the one made here and to its text, its listing to the model's, and what the program agree prints to the listing; then
                      some inputs of odd lengths. Holds what the program rewrite writes of all of these, and of the sheets of crate runs, to the model's normal
@@ -24,7 +24,7 @@ from counting import built, closing
 
 TOP = os.path.join(os.path.dirname(os.path.abspath(__file__)), "..")
 EXAMPLES = os.path.join(TOP, "examples")
-LONGEST_LISTING = 395
+LONGEST_LISTING = 457
 PROGRAM, REWRITE, AUDIT = PROGRAMS = [os.path.join(TOP, "target", "bin", name) for name in ("agree", "rewrite", "audit")]
 # has no text: none gives records outside the chain
 UNTIDY = "untidy"
@@ -33,24 +33,24 @@ UNTIDY = "untidy"
 # ---- a listing and a set in Python, from the documents
 
 
-def run_of(data):
-    """The number of the cause by which a sheet is refused, or 0, and its run."""
-    n, t = data[:2] if len(data) > 1 else (0, 0)
-    cause, table = reader.read(data, [0] * min(reader.table_size(n, t), reader.LARGEST_TABLE))
+def runs_of(data):
+    """The number of the cause by which a sheet is refused, or 0, and the run of each of its bits."""
+    cause, tables = reader.read(data, [0] * reader.wanted_size(data))
     if cause:
-        return cause, None
-    n, t, T, sender, value, marks = reader.header(data)
-    return 0, model.Run(n, t, T, sender - 1, value, [bool(marks >> i & 1) for i in range(n)], table)
+        return cause, []
+    n, t, T, sender, value, w, marks = reader.header(data)
+    return 0, model.runs_of_bits(n, t, T, sender - 1, value, w, [bool(marks >> i & 1) for i in range(n)], tables)
 
 
 def listing(data):
-    cause, run = run_of(data)
+    """ "A bad station is told by grade 255, since 255 can be a recipe." """
+    cause, runs = runs_of(data)
     if cause:
         return f"refused {cause}\n"
-    _, outcomes = model.broadcast(model.Rules, run)
+    run, (_, outcomes) = runs[0], model.number_broadcast(runs)
     lines = [f"agree {run.n} {run.t} {run.T} {run.sender + 1} {run.rounds}"]
-    for i in range(run.n):
-        lines.append(" ".join([str(i + 1)] + (["-"] * model.OUTCOME if run.bad[i] else [str(b) for b in outcomes[i]])))
+    for i, outcome in enumerate(outcomes, 1):
+        lines.append(" ".join([str(i)] + (["-"] * model.OUTCOME if outcome[1] == 255 else [str(b) for b in outcome])))
     return "".join(line + "\n" for line in lines)
 
 
@@ -79,16 +79,16 @@ def as_run(line, log, outcomes):
 # ---- the sheets
 
 
-def sheet_of(n, t, T, sender, value, marked, records, order=None):
-    """A sheet whose chain takes the records in their order; `order` says at which index each one stands."""
+def sheet_of(n, t, T, sender, value, marked, records, order=None, w=0):
+    """A sheet whose chain takes the records, of bit 0 where they don't say which, in their order; `order` says at which index each one stands."""
     order = order or list(range(1, len(records) + 1))
     marks = sum(1 << (i - 1) for i in marked)
     first = order[0] if records else 0
     placed = {}
     for at, record, after in zip(order, records, order[1:] + [0]):
-        placed[at] = bytes(record) + after.to_bytes(2, "little") + b"\0\0"
+        placed[at] = bytes(record[:4]) + after.to_bytes(2, "little") + bytes([*(record[4:] or [0]), 0])
     body = b"".join(placed[at] for at in sorted(placed))
-    return bytes([n, t, T, sender, value, 0]) + first.to_bytes(2, "little") + marks.to_bytes(4, "little") + body
+    return bytes([n, t, T, sender, value, w]) + first.to_bytes(2, "little") + marks.to_bytes(4, "little") + body
 
 
 def shuffled(items, seed):
@@ -117,16 +117,28 @@ def large():
     return sheet_of(32, 10, 10, 7, 1, bad, records + [(26, i, j, 77) for i in bad for j in range(1, 33)])
 
 
+def recipe():
+    """Recipe 5 of eight: t 0, T 1, station 1 sends. Station 4 is bad: in bit 0 it tells station 2 zeros and the others ones, in bits 1 and 2 it keeps the rules.
+    All decide 5, and station 2 flags: its grade of bit 0 is 1, of the others 2."""
+    told = (0, 1, (1, 3)), (0, 0, (2,)), (1, 0, (1, 2, 3)), (2, 1, (1, 2, 3))
+    return sheet_of(4, 0, 1, 1, 5, [4], [(r, 4, j, ballot, bit) for bit, ballot, to in told for r in (2, 3, 5, 6) for j in to], w=3)
+
+
+def widest():
+    """Recipe 255 of 256 beside a bad station, whose bytes are 255 too. It is garbled in bit 7 alone: in one round at station 1, in two at station 2."""
+    return sheet_of(4, 1, 1, 1, 255, [4], [(2, 4, 1, 77, 7), (2, 4, 2, 77, 7), (3, 4, 2, 77, 7)], w=8)
+
+
 def longest():
-    """The sheet of the longest listing: n, t, T, the sender, R and the counts have two digits. Only a bad station's ballots can be garbled, and its own line is
-    the shorter, so there is one: the sender, garbled in every round."""
-    return sheet_of(32, 10, 10, 32, 1, [32], [(r, 32, j, 77) for r in range(1, 37) for j in range(1, 33)])
+    """The sheet of the longest listing: n, t, T, the sender, R and the counts have two digits, the numbers three. Only a bad station's ballots can be garbled, and
+    its own line is the shorter, so there is one: station 1, a king, garbled in every round of bit 7. The good sender's number is 255."""
+    return sheet_of(32, 10, 10, 32, 255, [1], [(r, 1, j, 77, 7) for r in range(1, 37) for j in range(1, 33)], w=8)
 
 
 def longest_of(n, t, T, bad):
     """How long a listing of that line with so many bad stations can be at most: with none all counts are 0."""
     rounds = 3 * t + 6
-    fields = len("- - - -") * bad + len(f"0 0 0 {rounds if bad else 0}") * (n - bad)
+    fields = len("- - - -") * bad + len(f"255 0 0 {rounds if bad else 0}") * (n - bad)
     return len(f"agree {n} {t} {T} {n} {rounds}\n") + fields + sum(len(f"{i} \n") for i in range(1, n + 1))
 
 
@@ -161,6 +173,8 @@ def sheets():
         "d": sheet_of(1, 0, 0, 1, 0, [], []),
         "d-bad": sheet_of(1, 0, 0, 1, 0, [1], []),
         "garbled": garbled(),
+        "recipe": recipe(),
+        "widest": widest(),
         "large": large(),
         "longest": longest(),
         UNTIDY: untidy(),
@@ -179,7 +193,7 @@ def foreign():
 
 def logs():
     """Line, log and outcomes."""
-    return {"a": ((4, 1, 1, 1), *logged(run_of(sheets()["a"])[1])), "foreign": foreign()}
+    return {"a": ((4, 1, 1, 1), *logged(runs_of(sheets()["a"])[1][0])), "foreign": foreign()}
 
 
 def odd_inputs():
@@ -190,9 +204,25 @@ def odd_inputs():
     inputs = {"the longest sheet": longest, "empty": b"", "one byte": b"\4", "eleven bytes": a[:11], "thirteen bytes": a + b"\0", "nineteen bytes": one[:19]}
     inputs |= {"a byte too long": longest + b"\0", "a record too long": longest + bytes(8), "very long": longest * 4, "zeros": bytes(12)}
     inputs |= {"all ones": b"\xff" * 12, "n 33": b"\x21" + a[1:], "T 2": a[:2] + b"\2" + a[3:], "sender 5": a[:3] + b"\5" + a[4:]}
-    inputs |= {"value 2": a[:4] + b"\2" + a[5:], "mark 5": a[:8] + b"\x10" + a[9:], "byte 5": a[:5] + b"\1" + a[6:], "first 1": a[:6] + b"\1" + a[7:]}
+    inputs |= {"value 2": a[:4] + b"\2" + a[5:], "mark 5": a[:8] + b"\x10" + a[9:], "first 1": a[:6] + b"\1" + a[7:]}
     inputs |= {"again": one[:16] + b"\1" + one[17:], "round 10": one[:12] + b"\x0a" + one[13:], "last byte": one[:19] + b"\1"}
     inputs |= {"unmarked": one[:13] + b"\1" + one[14:], "twice": sheet_of(4, 1, 1, 1, 1, [4], [(1, 4, 1, 1), (1, 4, 1, 255)])}
+    return inputs | odd_numbers(a)
+
+
+def odd_numbers(a):
+    """Case A's sheet with other widths, numbers and bits; the longest sheet of eight bits of the largest line."""
+    def record(bit, w):
+        return sheet_of(4, 1, 1, 1, 1, [4], [(1, 4, 1, 1, bit)], w=w)
+
+    inputs = {f"w {w}": a[:5] + bytes([w]) + a[6:] for w in (1, 2, 8, 9, 255)}
+    inputs |= {f"number {number} of {w} bits": a[:4] + bytes([number, w]) + a[6:] for number, w in ((3, 2), (4, 2), (7, 3), (8, 3), (127, 7), (128, 7), (255, 8))}
+    inputs |= {f"bit {bit} of {w}": record(bit, w) for bit, w in ((1, 0), (1, 1), (1, 2), (2, 2), (7, 8), (8, 8), (255, 8))}
+    inputs |= {"w 9 and n 33": b"\x21" + a[1:5] + b"\x09" + a[6:], "w 9 and a byte too long": a[:5] + b"\x09" + a[6:] + b"\0"}
+    inputs["the same place in two bits"] = sheet_of(4, 1, 1, 1, 2, [4], [(1, 4, 1, 1, 1), (1, 4, 1, 255, 0)], w=2)
+    inputs["the same place twice in bit 1"] = sheet_of(4, 1, 1, 1, 2, [4], [(1, 4, 1, 1, 1), (1, 4, 1, 0, 0), (1, 4, 1, 255, 1)], w=2)
+    records = [(r, i, j, (r + j + bit) % 4, bit) for bit in range(8) for r in range(1, 37, 4) for i in (2, 32) for j in range(1, 33)][:4096]
+    inputs["the longest sheet of eight bits"] = sheet_of(32, 10, 10, 7, 200, [2, 32], shuffled(records, 3), shuffled(range(1, len(records) + 1), 4), w=8)
     return inputs
 
 
@@ -300,11 +330,10 @@ def audits():
         markings, broke = list(model.run_markings(*as_run(*made))), {int(word) - 1 for word in told.split()[1:]}
         yield f"{name}: the set is the least marking", broke in markings and all(broke <= one for one in markings)
     yield "foreign: stations 3 and 4", audited(*foreign()) == "broke 3 4\n"
-    for name, sheet in sheets().items():
-        run = run_of(sheet)[1]
+    for name, bit, run in ((name, bit, run) for name, sheet in sheets().items() for bit, run in enumerate(runs_of(sheet)[1])):
         marks = "".join(f" {i + 1}" for i in range(run.n) if run.bad[i])
         made = (run.n, run.t, run.T, run.sender + 1), *logged(run)
-        yield f"{name}: the log of its run yields its marks", asked_of(*made) == (0, f"broke{marks}\n", "") == (0, audited(*made), "")
+        yield f"{name}: the log of its run of bit {bit} yields its marks", asked_of(*made) == (0, f"broke{marks}\n", "") == (0, audited(*made), "")
 
 
 def odd_logs():

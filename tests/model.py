@@ -1,5 +1,5 @@
-"""Document 01's steps with document 02's Tickets 2 to 4, for the tests: the graded exchange, the broadcast with its log, the single station, and the checker of
-logs.
+"""Document 01's steps with document 02's Tickets 2 to 5, for the tests: the graded exchange, the broadcast with its log, the broadcasts of a number's bits, the
+single station, and the checker of logs.
 
 Stations are counted from 0 and rounds from 1, as in the definitions of crate broadcast.
 """
@@ -158,6 +158,44 @@ def log_of(rules, run, said):
                 b = said.get(r, [SILENCE] * run.n)[i]
                 log[rules.offset(run.n, r, i, j)] = sends(rules, run, r, i, j, b)
     return log
+
+
+# ---- a number of w bits
+
+
+class Numbers:
+    """Ticket 5's own: where a bit's table stands, and a good station's outcome of a number from its outcomes of the bits, bit 0 first. An edit replaces one of
+    them."""
+
+    # "The buffers hold the bits' tables one after another, bit 0 first"
+    part = staticmethod(lambda tables, size, b: tables[b * size:(b + 1) * size])
+    number = staticmethod(lambda values: sum(value << b for b, value in enumerate(values)))
+    # "The garbled count is the largest of the bits' counts, the grade the smallest."
+    grade, count = staticmethod(min), staticmethod(max)
+    # "a station's flag is raised if any bit raises it"
+    flag = staticmethod(max)
+
+
+def runs_of_bits(n, t, T, sender, number, w, bad, tables, numbers=Numbers):
+    """The run of each bit, bit 0 first: "Each bit is one broadcast, all with the same marks and sender", and "0 standing for 1"."""
+    bits = w or 1
+    return [Run(n, t, T, sender, number >> b & 1, bad, numbers.part(tables, len(tables) // bits, b)) for b in range(bits)]
+
+
+def outcome_of_bits(numbers, ends):
+    values, grades, flags, counts = zip(*ends)
+    return numbers.number(values), numbers.grade(grades), numbers.flag(flags), numbers.count(counts)
+
+
+def number_broadcast(runs, rules=Rules, numbers=Numbers):
+    """The log of a number's run, its bits' logs one after another, and the outcome of each station."""
+    log, ends = [], []
+    for run in runs:
+        said, outcomes = broadcast(rules, run)
+        log += log_of(rules, run, said)
+        ends.append(outcomes)
+    bad = runs[0].bad
+    return log, [rules.bad_outcome if bad[j] else outcome_of_bits(numbers, [end[j] for end in ends]) for j in range(runs[0].n)]
 
 
 class Station:

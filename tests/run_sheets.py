@@ -1,20 +1,20 @@
 """The sheets that the program of crate runs is given: the documents' cases, garbled ballots in every kind of round,
-every cause in its variants, causes in conflict, chains of every shape, the longest sheets, and sheets drawn by lot, many
-of them damaged.
+numbers of several bits, every cause in its variants, causes in conflict, chains of every shape, the longest sheets, and
+sheets drawn by lot, many of them damaged.
 
 Each has the length of the table that is lent with it. Those that are not drawn have the answer that the documents give.
 """
 from collections import namedtuple
 
 from model import OUTCOME
+from sheet import LARGEST_TABLE, MOST_BITS, MOST_RECORDS, bits, tables_size
 
-Call = namedtuple("Call", "n t T sender value marks")
+Call = namedtuple("Call", "n t T sender value marks w", defaults=(0,))
 # a next index of None is that of the record after it in the chain, or 0
-Record = namedtuple("Record", "round sender to ballot next tail", defaults=(1, None, 0))
+Record = namedtuple("Record", "round sender to ballot next bit last", defaults=(1, None, 0, 0))
 # cause is None where the answer is not known beforehand; so are the outcomes
 Stored = namedtuple("Stored", "sheet lent cause outcomes", defaults=(None, None))
 
-LARGEST, MOST_RECORDS = 36864, 4096
 LINE = Call(4, 1, 1, 1, 1, 0b1100)  # stations 3 and 4 are bad; R is 9
 GOOD = Record(1, 3, 1)
 
@@ -23,15 +23,15 @@ def two(number):
     return number.to_bytes(2, "little")
 
 
-def header(call, first=0, zero=0):
-    return bytes([*call[:5], zero]) + two(first) + call.marks.to_bytes(4, "little")
+def header(call, first=0):
+    return bytes([*call[:5], call.w]) + two(first) + call.marks.to_bytes(4, "little")
 
 
 def packed(record):
-    return bytes(record[:4]) + two(record.next) + two(record.tail)
+    return bytes(record[:4]) + two(record.next) + bytes([record.bit, record.last])
 
 
-def chained(call, records, order=None, k=None, rest=b"\xff" * 8, first=None, zero=0):
+def chained(call, records, order=None, k=None, rest=b"\xff" * 8, first=None):
     """A sheet with a chain of the records. The q-th of them stands at index order[q], and every index up to k that is
     left has the bytes of rest."""
     order = order or range(1, len(records) + 1)
@@ -39,14 +39,13 @@ def chained(call, records, order=None, k=None, rest=b"\xff" * 8, first=None, zer
     for record, index, after in zip(records, order, [*order[1:], 0]):
         stored[index - 1] = packed(record if record.next is not None else record._replace(next=after))
     start = first if first is not None else order[0] if records else 0
-    return header(call, start, zero) + b"".join(stored)
+    return header(call, start) + b"".join(stored)
 
 
 def own_length(sheet):
-    """The length of the run table by the sheet's header, where a frame can hold it."""
-    n, t = sheet[:2] if len(sheet) > 1 else (0, 0)
-    size = (3 * t + 6) * n * n
-    return size if size < 65536 else LARGEST
+    """The length of the tables by the sheet's header, where the program has as much to lend."""
+    size = tables_size(*sheet[:2], sheet[5]) if len(sheet) > 5 else 0
+    return min(size, LARGEST_TABLE)
 
 
 def given(cause, sheet, lent=None, outcomes=None):
@@ -54,15 +53,23 @@ def given(cause, sheet, lent=None, outcomes=None):
 
 
 def place_numbers(call):
-    """Round, from and to of every place of the run table."""
+    """Bit, round, from and to of every place of the tables."""
     stations = range(1, call.n + 1)
-    return [(r, i, j) for r in range(1, 3 * call.t + 7) for i in stations for j in stations]
+    return [(b, r, i, j) for b in range(bits(call.w)) for r in range(1, 3 * call.t + 7) for i in stations for j in stations]
 
 
-def filler():
-    """All stations bad, and a ballot other than 255 in every place: what a later run writes there shows."""
-    call = LINE._replace(marks=15)
-    return given(0, chained(call, [Record(*p, 7 * q % 255) for q, p in enumerate(place_numbers(call))]))
+def marked_places(call):
+    return [p for p in place_numbers(call) if call.marks >> (p[2] - 1) & 1]
+
+
+def at_place(place, ballot=1):
+    return Record(*place[1:], ballot, bit=place[0])
+
+
+def filler(w=0):
+    """All stations bad, and a ballot other than 255 in every place of so many bits: what a later run writes there shows."""
+    call = LINE._replace(marks=15, w=w)
+    return given(0, chained(call, [at_place(p, 7 * q % 255) for q, p in enumerate(place_numbers(call))]))
 
 
 # ---- document 01's cases, B as Ticket 2 has it, with Ticket 4's count, which is 0 in all of them
@@ -120,6 +127,48 @@ def garbled():
     yield given(0, chained(LINE, both), outcomes=[1, 0, 1, 1] * 2 + BAD * 2)
 
 
+# ---- numbers of several bits
+
+def in_bits(call, *told):
+    """A sheet of these: the bit, the rounds, who tells, who is told, and the ballot."""
+    return chained(call, [Record(r, i, j, b, bit=bit) for bit, rounds, froms, to, b in told for r in rounds for i in froms for j in to])
+
+
+def of_one_bit():
+    """Cases A to D with w 0 and 1, and sheets that are another thing in each bit."""
+    both = [Record(r, 1, j, j - 2) for r in (1, 2, 3, 5, 6) for j in (2, 3)]
+    for w in 0, 1:
+        yield given(0, header(Call(4, 1, 1, 1, 1, 8, w)), outcomes=[1, 2, 0, 0] * 3 + BAD)
+        yield given(0, chained(Call(4, 0, 1, 4, 0, 8, w), [Record(1, 4, j, j == 1) for j in (1, 2, 3)]), outcomes=[1, 1, 1, 0] * 3 + BAD)
+        yield given(0, chained(Call(3, 0, 1, 1, 0, 1, w), both), outcomes=BAD + [0, 1, 1, 0, 1, 1, 1, 0])
+        yield given(0, header(Call(1, 0, 0, 1, 0, 0, w)), outcomes=[0, 2, 0, 0])
+
+
+def numbers():
+    a, quiet = Call(4, 1, 1, 1, 1, 8), (1, 2, 3)
+    yield from of_one_bit()
+    # every number of the widest beside a bad station, 255 too; one station alone, and marked
+    for w, number in (2, 0), (2, 2), (3, 5), (8, 170), (8, 255):
+        yield given(0, header(a._replace(value=number, w=w)), outcomes=[number, 2, 0, 0] * 3 + BAD)
+    yield given(0, header(Call(1, 0, 0, 1, 200, 0, 8)), outcomes=[200, 2, 0, 0])
+    yield given(0, header(Call(1, 0, 0, 1, 255, 1, 8)), outcomes=BAD)
+    # case B in bit 1, silence in bit 0
+    yield given(0, in_bits(Call(4, 0, 1, 4, 0, 8, 2), (1, [1], [4], [1], 1), (1, [1], [4], [2, 3], 0)), outcomes=[2, 1, 1, 0] * 3 + BAD)
+    # case C in bit 2 of three: the numbers differ, and all flag
+    told = [(2, (1, 2, 3, 5, 6), [1], [j], j - 2) for j in (2, 3)]
+    yield given(0, in_bits(Call(3, 0, 1, 1, 0, 1, 3), *told), outcomes=BAD + [0, 1, 1, 0, 4, 1, 1, 0])
+    # station 4 keeps the rules in one bit and is silent in the other, the first or the last, which alone has grade 1 and a flag
+    for number, kept in (1, 1), (2, 0):
+        told = (kept, (2, 3, 5, 6), [4], quiet, 0)
+        yield given(0, in_bits(Call(4, 0, 1, 1, number, 8, 2), told), outcomes=[number, 1, 1, 0] * 3 + BAD)
+    # two bad ones leave bit 0 with grade 0, and keep the rules in bit 1
+    told = (0, [2], [3, 4], range(1, 5), 77), (1, (2, 3, 5, 6, 8, 9), [3, 4], [1, 2], 0)
+    yield given(0, in_bits(LINE._replace(w=2), *told), outcomes=[1, 0, 1, 1] * 2 + BAD * 2)
+    # the largest of the bits' counts, not their sum: 1, 0, 3 at station 1, and 2, 1, 0 at station 2
+    told = (0, [2], [4], [1], 77), (2, (2, 3, 5), [4], [1], 77), (0, (2, 3), [4], [2], 77), (1, [5], [4], [2], 77)
+    yield given(0, in_bits(a._replace(value=5, w=3), *told), outcomes=[5, 2, 0, 3, 5, 2, 0, 2, 5, 2, 0, 0] + BAD)
+
+
 # ---- causes 1 to 8, one at a time
 
 def sheet_form():
@@ -130,8 +179,16 @@ def sheet_form():
     for length in 0, 1, 4, 5, 6, 8, 11, 13, 16, 19, 21, 27:
         yield given(1, unchained[:length], 144)
     yield given(1, whole + b"\0")
-    for zero in 1, 2, 128, 255:
-        yield given(1, chained(LINE, [GOOD], zero=zero))
+
+
+def widths():
+    """Cause 15, whatever the table's length; then the widths that there are."""
+    for w in 9, 10, 16, 128, 254, 255:
+        yield given(15, chained(LINE._replace(w=w), [GOOD]))
+    for lent in 0, 144, 8 * 144, 9 * 144:
+        yield given(15, header(LINE._replace(w=9)), lent)
+    for w in range(MOST_BITS + 1):
+        yield given(0, chained(LINE._replace(w=w), [GOOD]))
 
 
 def line_numbers():
@@ -162,6 +219,11 @@ def sender_and_value():
     for sender in 1, 3:
         for value in 2, 3, 128, 255:
             yield given(5, header(LINE._replace(sender=sender, value=value)))
+        # the largest number of each width, and one more
+        for w in range(1, MOST_BITS):
+            yield given(0, header(LINE._replace(sender=sender, value=2 ** w - 1, w=w)))
+            yield given(5, header(LINE._replace(sender=sender, value=2 ** w, w=w)))
+            yield given(5, header(LINE._replace(sender=sender, value=255, w=w)))
 
 
 def marks():
@@ -185,6 +247,12 @@ def table_lengths():
         yield given(8, header(Call(32, 10, 10, 1, 0, 0)), lent)
     for lent in 5, 7:
         yield given(8, header(Call(1, 0, 0, 1, 0, 0)), lent)
+    # one bit's table where there are more, and more than there are
+    for w, lents in (0, (288,)), (1, (0, 288)), (2, (144, 287, 289, 432)), (3, (144, 288, 576)), (8, (144, 1151, 1153, 1296)):
+        for lent in lents:
+            yield given(8, chained(LINE._replace(w=w), [GOOD]), lent)
+    for w in 2, 8:
+        yield given(8, header(Call(32, 10, 10, 1, 0, 0, w)), LARGEST_TABLE)
 
 
 # ---- causes 9 and 10
@@ -220,10 +288,10 @@ def chains():
 
 # ---- causes 11 to 13, one at a time
 
-def alone_and_last(cause, record):
+def alone_and_last(cause, record, call=LINE):
     """The record in a chain of its own, and after two that are in order."""
-    yield given(cause, chained(LINE, [record]))
-    yield given(cause, chained(LINE, [Record(8, 3, 4), Record(8, 4, 3), record], (2, 3, 1)))
+    yield given(cause, chained(call, [record]))
+    yield given(cause, chained(call, [Record(8, 3, 4), Record(8, 4, 3), record], (2, 3, 1)))
 
 
 def records():
@@ -237,8 +305,10 @@ def records():
         yield from alone_and_last(11, GOOD._replace(sender=wrong))
     for wrong in 0, 5, 6, 255:
         yield from alone_and_last(11, GOOD._replace(to=wrong))
-    for tail in 1, 128, 255, 256, 32768, 65280, 257, 65535:
-        yield from alone_and_last(11, GOOD._replace(tail=tail))
+    for bit in 1, 2, 8, 128, 255:
+        yield from alone_and_last(11, GOOD._replace(bit=bit))
+    for last in 1, 2, 128, 255:
+        yield from alone_and_last(11, GOOD._replace(last=last))
     for unmarked in 1, 2:
         for to in 1, 3:
             yield from alone_and_last(12, Record(1, unmarked, to))
@@ -250,6 +320,21 @@ def records():
     yield given(11, chained(wide, [Record(7, 32, 32)]))
     yield given(12, chained(wide, [Record(6, 31, 32)]))
     yield given(12, chained(wide, [Record(6, 1, 32)]))
+
+
+def bits_of_records():
+    """The bits that a sheet has, and those that it hasn't; then its last byte."""
+    for w in 0, 1, 2, 3, 7, 8:
+        call = LINE._replace(w=w)
+        yield from alone_and_last(0, GOOD._replace(bit=bits(w) - 1), call)
+        for bit in bits(w), 128, 255:
+            yield from alone_and_last(11, GOOD._replace(bit=bit), call)
+        yield from alone_and_last(11, GOOD._replace(bit=bits(w) - 1, last=1), call)
+        yield given(0, chained(call, [GOOD._replace(bit=bit) for bit in range(bits(w))]))
+        # another bit's record has the same place, and one of the last bit has it again
+        again = [GOOD._replace(bit=bit) for bit in (*range(bits(w)), bits(w) - 1)]
+        yield given(13, chained(call, again))
+        yield given(13, chained(call, again, range(len(again), 0, -1)))
 
 
 def places():
@@ -269,13 +354,16 @@ def places():
 
 # ---- causes in conflict
 
-EARLY, LATE = (1, 2, 3, 4, 5, 6, 8), (9, 10, 11, 12, 13)
+# in the order in which they are looked for
+EARLY, LATE = (1, 15, 2, 3, 4, 5, 6, 8), (9, 10, 11, 12, 13)
 WRONG = {11: Record(0, 3, 3), 12: Record(4, 2, 2), 13: GOOD}
 
 
 def flawed(causes):
     """A sheet for which the causes hold, with its table's length. Where n is 0 causes 3 and 4 hold too."""
     call, records = LINE, [GOOD]
+    if 15 in causes:
+        call = call._replace(w=9)
     if 2 in causes:
         call = call._replace(n=0 if 6 in causes else 33)
     if 3 in causes:
@@ -283,21 +371,22 @@ def flawed(causes):
     if 4 in causes:
         call = call._replace(sender=0)
     if 5 in causes:
-        call = call._replace(value=2)
+        call = call._replace(value=255)
     if 6 in causes:
         call = call._replace(marks=2 ** 31 + 12)
     records += [WRONG[c] for c in (11, 12, 13) if c in causes]
     if 9 in causes or 10 in causes:
         records.append(Record(5, 3, 3, next=9 if 9 in causes else 1))
-    sheet = chained(call, records, zero=1 if 1 in causes else 0)
-    return sheet, own_length(sheet) + (1 if 8 in causes else 0)
+    sheet = chained(call, records)
+    return sheet + bytes(1 in causes), own_length(sheet) + (8 in causes)
 
 
 def conflicts():
     """Every two causes that can hold at once, and all from each on; then causes 11 to 13 by the chain's order."""
-    for a in EARLY + (9, 10):
-        for b in EARLY + LATE:
-            if a < b and (a, b) != (9, 10):
+    order = EARLY + LATE
+    for q, a in enumerate(EARLY + (9, 10)):
+        for b in order[q + 1:]:
+            if (a, b) != (9, 10):
                 yield given(a, *flawed({a, b}))
     for q in range(len(EARLY)):
         for late in (9, 11, 12, 13), (10, 11, 12, 13):
@@ -308,8 +397,9 @@ def conflicts():
                 yield given(a, chained(LINE, [GOOD, WRONG[a], WRONG[b]], order))
     # two causes in one record
     yield given(11, chained(LINE, [Record(0, 1, 1)]))
-    yield given(11, chained(LINE, [Record(1, 1, 1, tail=1)]))
-    yield given(11, chained(LINE, [GOOD, GOOD._replace(tail=256)]))
+    yield given(11, chained(LINE, [Record(1, 1, 1, bit=1)]))
+    yield given(11, chained(LINE, [GOOD, GOOD._replace(last=1)]))
+    yield given(11, chained(LINE, [GOOD, GOOD._replace(bit=1)]))
     # a record reached again is never a second ballot for its place; a good sender's second ballot has the cause of the first
     yield given(10, chained(LINE, [GOOD, GOOD._replace(next=2)]))
     yield given(12, chained(LINE, [Record(1, 1, 1), Record(1, 1, 1)]))
@@ -317,16 +407,17 @@ def conflicts():
 
 # ---- the longest sheets
 
-def longest(lot):
-    """4,096 records of a line of 32, chained in no order: as they are; then the last of them changed; then longer sheets."""
-    call = Call(32, 10, 10, 7, 1, sum(1 << (i - 1) for i in (1, 2, 4, 5, 8, 11, 17, 23, 31, 32)))
-    free = [p for p in place_numbers(call) if call.marks >> (p[1] - 1) & 1]
-    chain = [Record(*p, lot.ballot()) for p in lot.shuffled(free)[:MOST_RECORDS]]
+def longest(lot, call, all_causes):
+    """4,096 records, chained in no order: as they are; then one in a place that is taken; then, where all is wanted, the last of them changed otherwise, and
+    longer sheets."""
+    chain = [at_place(p, lot.ballot()) for p in lot.shuffled(marked_places(call))[:MOST_RECORDS]]
     order = lot.shuffled(range(1, MOST_RECORDS + 1))
     sheet = chained(call, chain, order)
     yield given(0, sheet)
     again = chain[0]._replace(ballot=3)
     yield given(13, chained(call, [*chain[:-1], again], order))
+    if not all_causes:
+        return
     for cause, index in (10, order[0]), (9, MOST_RECORDS + 1):
         yield given(cause, chained(call, [*chain[:-1], chain[-1]._replace(next=index)], order))
     for length in 32781, 32788, 40000:
@@ -348,9 +439,13 @@ class Lot:
     def among(self, items):
         return items[self.below(len(items))]
 
-    def shuffled(self, items):
+    def some(self, items, count):
+        """So many of the items, or all if there are fewer."""
         rest = list(items)
-        return [rest.pop(self.below(len(rest))) for _ in range(len(rest))]
+        return [rest.pop(self.below(len(rest))) for _ in range(min(count, len(rest)))]
+
+    def shuffled(self, items):
+        return self.some(items, len(items))
 
     def bytes(self, size):
         return bytes(self.below(256) for _ in range(size))
@@ -363,7 +458,8 @@ class Lot:
         T = self.below((n - 1) // 2 + 1)
         t = self.below(min(T, n - 1 - 2 * T) + 1)
         rate = self.among((0, 1, 2, 2, 3, 4))
-        return Call(n, t, T, 1 + self.below(n), self.below(2), sum(1 << i for i in range(n) if self.below(4) < rate))
+        w = self.among([w for w in (0, 0, 0, 0, 1, 1, 2, 3, 4, 7, 8) if tables_size(n, t, w) <= LARGEST_TABLE])
+        return Call(n, t, T, 1 + self.below(n), self.below(2 ** bits(w)), sum(1 << i for i in range(n) if self.below(4) < rate), w)
 
 
 class Draft:
@@ -371,8 +467,7 @@ class Draft:
 
     def __init__(self, lot):
         self.lot, self.call = lot, lot.call()
-        free = [p for p in place_numbers(self.call) if self.call.marks >> (p[1] - 1) & 1]
-        self.chain = [Record(*p, lot.ballot()) for p in lot.shuffled(free)[:lot.below(32)]]
+        self.chain = [at_place(p, lot.ballot()) for p in lot.some(marked_places(self.call), lot.below(32))]
         self.k = len(self.chain) + lot.below(4)
         self.order = lot.shuffled(range(1, self.k + 1))[:len(self.chain)]
         self.sheet = bytearray(chained(self.call, self.chain, self.order, self.k, lot.bytes(8)))
@@ -414,8 +509,11 @@ class Draft:
     def record_byte(self):
         self.put(self.record() + self.lot.below(3), self.lot.among((0, 1, self.call.n, self.call.n + 1, self.lot.below(256))))
 
-    def tail(self):
-        self.put(self.record() + 6 + self.lot.below(2), self.lot.below(256))
+    def bit(self):
+        self.put(self.record() + 6, self.lot.among((0, 1, bits(self.call.w) - 1, bits(self.call.w), self.lot.below(256))))
+
+    def last(self):
+        self.put(self.record() + 7, self.lot.below(256))
 
     def unmark(self):
         if self.chain:
@@ -423,12 +521,15 @@ class Draft:
             self.put(8, *marks.to_bytes(4, "little"))
 
     def same_place(self):
-        at = self.record()
-        self.put(self.record(1), *self.sheet[at:at + 3])
+        """The bit too, two times of three."""
+        at, to = self.record(), self.record(1)
+        self.put(to, *self.sheet[at:at + 3])
+        if self.lot.below(3):
+            self.put(to + 6, *self.sheet[at + 6:at + 7])
 
 
 DAMAGES = (Draft.any_byte, Draft.cut, Draft.cut_records, Draft.extend, Draft.length, *[Draft.header_byte] * 6,
-           *[Draft.next_index] * 2, *[Draft.record_byte] * 2, Draft.tail, *[Draft.unmark] * 2, *[Draft.same_place] * 2)
+           *[Draft.next_index] * 2, *[Draft.record_byte] * 2, Draft.bit, Draft.last, *[Draft.unmark] * 2, *[Draft.same_place] * 2)
 
 
 def drawn(lot, count):
@@ -441,9 +542,13 @@ def drawn(lot, count):
         yield Stored(bytes(draft.sheet), draft.lent)
 
 
+LARGEST_LINE = Call(32, 10, 10, 7, 1, sum(1 << (i - 1) for i in (1, 2, 4, 5, 8, 11, 17, 23, 31, 32)))
+EIGHT_BITS = Call(12, 3, 4, 7, 171, 0b101101, 8)
+
+
 def fixed(lot):
-    for group in (worked(), garbled(), sheet_form(), line_numbers(), sender_and_value(), marks(), table_lengths(), chains(),
-                  records(), places(), conflicts(), longest(lot)):
+    for group in (worked(), garbled(), numbers(), sheet_form(), widths(), line_numbers(), sender_and_value(), marks(), table_lengths(),
+                  chains(), records(), bits_of_records(), places(), conflicts(), longest(lot, LARGEST_LINE, True), longest(lot, EIGHT_BITS, False)):
         yield from group
 
 
@@ -452,7 +557,7 @@ def stored():
     lot, accepted = Lot(1), True
     for one in fixed(lot):
         if one.cause and accepted:
-            yield filler()
+            yield filler(min(one.sheet[5], 3) if len(one.sheet) > 5 else 0)
         yield one
         accepted = one.cause == 0
     yield from drawn(lot, 300)

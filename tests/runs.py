@@ -6,21 +6,21 @@
     tests/runs.py --check    compares with both, and with the answers that the documents give
 
 A run on standard input is the sheet's length and the lent table's, two bytes each, low byte first, then the sheet.
-Each run is a line: its number; n, t, T, sender, value and marks, or the refusal; a checksum of the lent table; and for
-an accepted sheet the rehearsal's answer, the bytes of the outcomes, and a checksum of the log and of the outcomes. The
-table goes from run to run, so a refused sheet shows in it what was there before. A table longer than the largest is
-lent from a buffer of zeros.
+Each run is a line: its number; n, t, T, sender, value, w as it stands on the sheet, and marks, or the refusal; a checksum
+of the lent table, of all bits; and for an accepted sheet the rehearsal's answer, the bytes of the outcomes, and a checksum
+of the log and of the outcomes. The table goes from run to run, so a refused sheet shows in it what was there before. A
+table longer than the largest of one bit is lent from a buffer of zeros.
 """
 import collections
 import pathlib
 import sys
 
 import sheet
-from model import Rules, Run, broadcast, log_of
+from model import number_broadcast, runs_of_bits
 from run_sheets import stored
 
 FOLDER = pathlib.Path(__file__).resolve().parent.parent / "crates/runs"
-LARGEST, WORD = 36864, 2 ** 32
+WORD = 2 ** 32
 
 
 def framed(runs):
@@ -36,21 +36,20 @@ def checksum(data):
 
 def rehearsed(call, table):
     """The log and the outcomes."""
-    n, t, T, sender, value, marks = call
-    run = Run(n, t, T, sender - 1, value, [bool(marks >> i & 1) for i in range(n)], table)
-    said, decided = broadcast(Rules, run)
-    return log_of(Rules, run, said), [b for outcome in decided for b in outcome]
+    n, t, T, sender, value, w, marks = call
+    log, decided = number_broadcast(runs_of_bits(n, t, T, sender - 1, value, w, [bool(marks >> i & 1) for i in range(n)], table))
+    return log, [b for outcome in decided for b in outcome]
 
 
 class Reader:
     """The runs one after another, with the buffers that they share."""
 
     def __init__(self):
-        self.table, self.longer, self.lines, self.causes, self.amiss = [255] * LARGEST, [0] * 65536, [], [], []
+        self.table, self.longer, self.lines, self.causes, self.amiss = [255] * sheet.LARGEST_TABLE, [0] * 65536, [], [], []
 
     def run(self, one):
         """Reads a sheet and rehearses it. What comes out otherwise than the documents say is kept in amiss."""
-        buffer, name = self.table if one.lent <= LARGEST else self.longer, f"run {len(self.lines) + 1}:"
+        buffer, name = self.table if one.lent <= sheet.LARGEST_TABLE else self.longer, f"run {len(self.lines) + 1}:"
         cause, buffer[:one.lent] = sheet.read(one.sheet, buffer[:one.lent])
         table, outcomes = buffer[:one.lent], None
         call = sheet.header(one.sheet) if cause == 0 else ("refused", cause)

@@ -1,9 +1,13 @@
 #!/usr/bin/env python3
-"""Holds every exported call and the programs agree, rewrite and audit to the conformance vectors of vectors/ (vectors/README.md has their form).
+"""Holds every exported call and the programs agree, rewrite and audit to the conformance vectors of vectors/ (vectors/README.md has their form), and the model of
+the tests too. Some vectors are derived from those that are there: the reading of one bit from those of all bits, the runs of a number's bits from its own, and
+checks of their logs.
 
 A call is handed each buffer with bytes around it that must stay as they are; so must what it may only read, and in a refused call every
 buffer. Then the test itself is tried: on copies of the vectors with a wrong answer planted in each, on calls that write where they may not or
 answer otherwise, and on other programs. The last line is 'N passed, M failed'.
+
+    tests/vectors.py --model    holds the model alone
 """
 import collections
 import copy
@@ -14,6 +18,8 @@ import subprocess
 import sys
 import tempfile
 
+import examples
+import model
 import sheet as sheets
 from counting import built, closing
 from model import OUTCOME
@@ -23,6 +29,7 @@ VECTORS = TOP / "vectors"
 PROGRAM, REWRITE, AUDIT = PROGRAMS = [TOP / "target" / "bin" / name for name in ("agree", "rewrite", "audit")]
 LIBRARIES = "exports", "controller", "lent"
 LINE, STATION, STATE = ("n", "t", "T"), ("n", "t", "T", "sender", "own"), ("round", "value", "z", "grade", "count")
+NUMBER = *LINE, "sender", "value", "w", "marks"
 AROUND = 64
 # an answer's highest byte is the refusal, the VALUES below it are what the call gives, and the fifth of them a count
 VALUES = 7
@@ -82,9 +89,9 @@ class Library:
         self.calls = ctypes.CDLL(str(path))
         byte, word, size, place = ctypes.c_uint8, ctypes.c_uint32, ctypes.c_size_t, ctypes.c_void_p
         buffer, station, state = [place, size], [byte] * 5, [ctypes.c_uint64]
-        self.declare(byte, vembopu_read=buffer * 2, vembopu_advance_lent=[place] + buffer)
+        self.declare(byte, vembopu_read=buffer * 2, vembopu_read_bit=buffer + [byte] + buffer, vembopu_advance_lent=[place] + buffer)
         self.declare(byte, vembopu_exchange=[byte] * 3 + [word] + buffer * 3)
-        self.declare(byte, vembopu_rehearse=[byte] * 5 + [word] + buffer * 3)
+        self.declare(byte, vembopu_rehearse=[byte] * 6 + [word] + buffer * 3)
         self.declare(ctypes.c_uint64, vembopu_open=station + [byte], vembopu_advance=station + state + buffer)
         self.declare(ctypes.c_uint64, vembopu_ballot=station + state, vembopu_result=station + state)
         self.declare(ctypes.c_uint64, vembopu_sheet_len=buffer * 2, vembopu_write=buffer * 3, vembopu_check=[byte] * 4 + buffer * 2)
@@ -135,6 +142,11 @@ def read(library, args):
     return answer(library.call("vembopu_read", *sheet, *table), sheet, table)
 
 
+def read_bit(library, args):
+    sheet, table = given(args, "sheet"), lent(args, "table")
+    return answer(library.call("vembopu_read_bit", *sheet, args["bit"], *table), sheet, table)
+
+
 def write(library, args):
     """The sheet. The bytes that it needs are told beforehand as the model has them, and how many records it has afterwards."""
     inputs, sheet = given(args, "header", "table"), lent(args, "sheet")
@@ -155,7 +167,7 @@ def exchange(library, args):
 
 
 def rehearse(library, args):
-    numbers = [args[name] for name in (*LINE, "sender", "value", "marks")]
+    numbers = [args[name] for name in NUMBER]
     table, made = given(args, "table"), lent(args, "log", "outcomes")
     return answer(library.call("vembopu_rehearse", *numbers, *table, *made), table, made)
 
@@ -235,7 +247,7 @@ def station_state(library, args):
     return {"refusals": {**refusals, "row": one.take(bytes.fromhex(args["row_bytes"]))}}
 
 
-CALLS = {call.__name__: call for call in (read, write, exchange, rehearse, check, station, station_state)}
+CALLS = {call.__name__: call for call in (read, read_bit, write, exchange, rehearse, check, station, station_state)}
 
 
 def call_fault(library, vector):
@@ -313,10 +325,121 @@ def audit_fault(program, vector):
     return None if made == wanted else f"gives {made}, wanted is {wanted}"
 
 
-def rehearsed(calls):
-    """A check of the log and the outcomes of each rehearsal: it yields the marks; with one station's count another, that station too."""
+# ---- the model, where it has the call
+
+
+def modelled(call, args):
+    """What the model makes of a vector's arguments, in the form of an answer."""
+    buffers = {name: bytes.fromhex(args[name]) for name in ("sheet", "header", "table", "log", "outcomes") if name in args}
+    cause, made = MODELLED[call](args, **buffers)
+    return {"refused": cause} if cause else made
+
+
+def model_read(args, sheet):
+    cause, table = sheets.read(sheet, bytes(args["table_len"]))
+    return cause, {"table": bytes(table).hex()}
+
+
+def model_read_bit(args, sheet):
+    cause, table = sheets.read_bit(sheet, args["bit"], bytes(args["table_len"]))
+    return cause, {"table": bytes(table).hex()}
+
+
+def model_write(args, header, table):
+    cause, size = sheets.needed(header, table)
+    if cause == 0 and size != args["sheet_len"]:
+        cause = 8
+    return cause, {} if cause else {"sheet": sheets.written(header, table).hex()}
+
+
+def model_rehearse(args, table):
+    """Refused as a sheet of these numbers would be, then by a buffer's length."""
+    n, t, _, _, _, w, marks = (args[name] for name in NUMBER)
+    cause = sheets.opening(bytes(args[name] for name in NUMBER[:6]) + bytes(2) + marks.to_bytes(4, "little"))
+    size = sheets.tables_size(n, t, w)
+    if cause == 0 and (len(table), args["log_len"], args["outcomes_len"]) != (size, size, OUTCOME * n):
+        cause = 8
+    if cause:
+        return cause, {}
+    log, outcomes = model.number_broadcast(runs_of(args, table))
+    return 0, {"log": bytes(log).hex(), "outcomes": in_hex(outcomes)}
+
+
+MODELLED = {"read": model_read, "read_bit": model_read_bit, "write": model_write, "rehearse": model_rehearse}
+
+
+def runs_of(args, table):
+    """The model's run of each bit."""
+    n, t, T, sender, value, w, marks = (args[name] for name in NUMBER)
+    return model.runs_of_bits(n, t, T, sender - 1, value, w, [bool(marks >> i & 1) for i in range(n)], table)
+
+
+def in_hex(outcomes):
+    return bytes(byte for outcome in outcomes for byte in outcome).hex()
+
+
+def model_faults(calls, listings):
+    """A vector's place and what is wrong with what the model makes of it, if anything is."""
     for place, vector in calls:
-        if vector["call"] == "rehearse" and "refused" not in vector["want"]:
+        if vector["call"] in MODELLED:
+            made = modelled(vector["call"], vector["args"])
+            yield f"{place}, by the model", None if made == vector["want"] else f"gives {made}, wanted is {vector['want']}"
+    for place, vector in listings:
+        made = examples.listing(bytes.fromhex(vector["sheet"]))
+        yield f"{place}, by the model", None if made == vector["listing"] else f"gives {made!r}, wanted is {vector['listing']!r}"
+
+
+# ---- vectors that follow from others
+
+
+BEFORE_LENGTH = 1, 15, 2, 3, 4, 5, 6
+
+
+def bits_read(sheet, lent, want):
+    """What follows from a reading of all bits for that of one: bit, length of the lent table and answer. A table of one bit's length gets that bit's part. The
+    whole sheet is judged, so that it has the same refusal: one that comes before the table's length with any table, one of the length with a byte more than
+    one bit's table has. A bit that the sheet hasn't is 11, after the length and before the chain."""
+    cause = want.get("refused", 0)
+    if cause in BEFORE_LENGTH:
+        return [(bit, lent, want) for bit in (0, 1, 255)]
+    size, bits = sheets.table_size(*sheet[:2]), sheets.bits(sheet[5])
+    if cause == 8:
+        return [(bit, size + 1, want) for bit in (0, bits, 255)]
+    parts = [want if cause else {"table": want["table"][2 * bit * size:2 * (bit + 1) * size]} for bit in range(bits)]
+    return [(bit, size, part) for bit, part in enumerate(parts)] + [(bit, size, {"refused": 11}) for bit in (bits, 255)]
+
+
+def bit_by_bit(calls):
+    """The readings of one bit that follow from each reading of all bits."""
+    for place, vector in calls:
+        if vector["call"] == "read":
+            sheet = vector["args"]["sheet"]
+            for bit, lent, want in bits_read(bytes.fromhex(sheet), vector["args"]["table_len"], vector["want"]):
+                yield f"{place}, bit {bit}", {"call": "read_bit", "args": {"sheet": sheet, "bit": bit, "table_len": lent}, "want": want}
+
+
+def runs_of_bits(calls):
+    """Each rehearsal of several bits taken apart: that of each bit alone. Its table and log are that bit's part of the number's; its outcomes are the model's,
+    which put together give the number's."""
+    for place, vector in calls:
+        if vector["call"] != "rehearse" or "refused" in vector["want"] or is_one_bit(vector):
+            continue
+        args, log = vector["args"], vector["want"]["log"]
+        for bit, run in enumerate(runs_of(args, bytes.fromhex(args["table"]))):
+            size = len(run.table)
+            alone = args | {"value": run.value, "w": bit % 2, "table": run.table.hex(), "log_len": size}
+            want = {"log": log[2 * bit * size:2 * (bit + 1) * size], "outcomes": in_hex(model.broadcast(model.Rules, run)[1])}
+            yield f"{place}, bit {bit}", {"call": "rehearse", "args": alone, "want": want}
+
+
+def is_one_bit(vector):
+    return sheets.bits(vector["args"]["w"]) == 1
+
+
+def rehearsed(calls):
+    """A check of the log and the outcomes of each rehearsal of one bit: it yields the marks; with one station's count another, that station too."""
+    for place, vector in calls:
+        if vector["call"] == "rehearse" and "refused" not in vector["want"] and is_one_bit(vector):
             args = {name: vector["args"][name] for name in (*LINE, "sender")} | vector["want"]
             marks = vector["args"]["marks"]
             yield f"{place}, checked", {"call": "check", "args": args, "want": {"marks": marks}}
@@ -326,8 +449,8 @@ def rehearsed(calls):
 
 
 def unmarked(outcomes):
-    """The stations, from 0, whose outcome isn't a bad one's."""
-    return [station for station, value in enumerate(bytes.fromhex(outcomes)[::OUTCOME]) if value != 255]
+    """The stations, from 0, whose outcome isn't a bad one's: "A bad station is told by grade 255"."""
+    return [station for station, grade in enumerate(bytes.fromhex(outcomes)[1::OUTCOME]) if grade != 255]
 
 
 def miscounted(outcomes, station):
@@ -409,7 +532,7 @@ class Miscounting:
 
 
 BUFFERS = {
-    "read": {"vembopu_read": 2}, "write": {"vembopu_sheet_len": 2, "vembopu_write": 3}, "exchange": {"vembopu_exchange": 3}, "rehearse": {"vembopu_rehearse": 3},
+    "read": {"vembopu_read": 2}, "read_bit": {"vembopu_read_bit": 2}, "write": {"vembopu_sheet_len": 2, "vembopu_write": 3}, "exchange": {"vembopu_exchange": 3}, "rehearse": {"vembopu_rehearse": 3},
     "check": {"vembopu_check": 2},
     "station": {"vembopu_advance": 1, "vembopu_advance_lent": 2}, "station_state": {"vembopu_advance": 1, "vembopu_advance_lent": 2},
 }
@@ -518,28 +641,43 @@ def lines(path):
     return [(f"{path.name}:{number}", json.loads(line)) for number, line in enumerate(path.read_text().splitlines(), 1)]
 
 
+def stored():
+    """The calls and the listings of vectors/, each with its place, and the calls that follow from them."""
+    calls, listings = (lines(VECTORS / name) for name in ("calls.jsonl", "listings.jsonl"))
+    bits = [*bit_by_bit(calls), *runs_of_bits(calls)]
+    return calls, listings, [*bits, *rehearsed([*calls, *bits])]
+
+
+def model_checks():
+    calls, listings, derived = stored()
+    for place, fault in model_faults([*calls, *derived], listings):
+        yield f"vectors/{place}: {fault}", fault is None
+
+
 def checks(library):
     """A name and whether it holds, for each check."""
-    calls, listings = (lines(VECTORS / name) for name in ("calls.jsonl", "listings.jsonl"))
-    logs = list(rehearsed(calls))
-    faults = [(place, call_fault(library, vector)) for place, vector in [*calls, *logs]]
+    calls, listings, derived = stored()
+    faults = [(place, call_fault(library, vector)) for place, vector in [*calls, *derived]]
     faults += [(place, listing_fault(PROGRAM, vector)) for place, vector in listings]
-    audits = [(place, vector) for place, vector in [*calls, *logs] if vector["call"] == "check"]
+    audits = [(place, vector) for place, vector in [*calls, *derived] if vector["call"] == "check"]
     faults += [(f"{place}, by the program", audit_fault(audit, vector)) for place, vector in audits]
     again = [(place, vector) for place, vector in [*calls, *listings] if vector.get("call", "read") == "read"]
     faults += [(f"{place}, rewritten", rewrite_fault(library, rewrite, vector)) for place, vector in again]
     count = collections.Counter(vector["call"] for _, vector in calls)
-    print(f"{len(calls)} calls ({', '.join(f'{name} {number}' for name, number in count.items())}), {len(listings)} listings, {len(again)} sheets rewritten, "
-          f"{len(audits)} logs checked, {len(logs)} of them rehearsed or miscounted")
+    print(f"{len(calls)} calls ({', '.join(f'{name} {number}' for name, number in count.items())}) and {len(derived)} that follow from them, "
+          f"{len(listings)} listings, {len(again)} sheets rewritten, {len(audits)} logs checked")
     for place, fault in faults:
         yield f"vectors/{place}: {fault}", fault is None
-    yield from own_checks(library, [vector for _, vector in calls], [vector for _, vector in listings])
+    yield from model_checks()
+    yield from own_checks(library, [vector for _, vector in [*calls, *derived]], [vector for _, vector in listings])
 
 
 def main():
+    if sys.argv[1:] == ["--model"]:
+        return closing(model_checks())
     with tempfile.TemporaryDirectory() as folder:
         return closing(checks(linked(folder)))
 
 
 if __name__ == "__main__":
-    sys.exit(not (all(map(built, PROGRAMS)) and main()))
+    sys.exit(not ((sys.argv[1:] == ["--model"] or all(map(built, PROGRAMS))) and main()))
