@@ -184,7 +184,7 @@ static const struct rehearse_input rehearse_inputs[] = {
     {32, 10, 10, 1, 255, 8, 0, TABLES, TABLES, OUTCOMES, 0},
     {32, 10, 10, 1, 170, 8, 0x3ffu, TABLES, TABLES, OUTCOMES, 0},
     {32, 10, 10, 1, 255, 8, 0xffffffffu, TABLES, TABLES, OUTCOMES, 0},
-    {33, 10, 10, 1, 1, 9, 0, TABLES, TABLES, OUTCOMES, 15}, /* and n */
+    {32, 10, 10, 1, 1, 9, 0, TABLES, TABLES, OUTCOMES, 15},
     {32, 10, 10, 1, 1, 255, 0, TABLE, TABLE, OUTCOMES, 15},
     {33, 10, 10, 1, 1, 0, 0, TABLE, TABLE, OUTCOMES, 2},
     {32, 11, 11, 1, 1, 0, 0, TABLE, TABLE, OUTCOMES, 3},
@@ -201,6 +201,14 @@ static const struct rehearse_input rehearse_inputs[] = {
     {32, 10, 10, 1, 1, 8, 0, TABLE, TABLE, OUTCOMES, 8},    /* one bit's */
     {32, 10, 10, 1, 1, 8, 0, TABLES, TABLE, OUTCOMES, 8},
     {32, 10, 10, 1, 1, 8, 0, TABLES, TABLES, 8 * OUTCOMES, 8},
+    /* each with all that come after it: w, n, T, sender, number, marks, lengths */
+    {33, 10, 16, 34, 255, 9, 0x80000000u, 1, 2, 3, 15},
+    {33, 10, 16, 34, 255, 7, 0x80000000u, 1, 2, 3, 2},
+    {31, 10, 16, 34, 255, 7, 0x80000000u, 1, 2, 3, 3},
+    {31, 10, 10, 34, 255, 7, 0x80000000u, 1, 2, 3, 4},
+    {31, 10, 10, 31, 255, 7, 0x80000000u, 1, 2, 3, 5},
+    {31, 10, 10, 31, 127, 7, 0x80000000u, 1, 2, 3, 6},
+    {31, 10, 10, 31, 127, 7, 0x40000000u, 1, 2, 3, 8},
 };
 
 struct check_input {

@@ -137,7 +137,7 @@ enum {
     VEMBOPU_TOO_MANY_RECORDS = 14,
                                   /* more than 4,096 records are to be
                                      written */
-    VEMBOPU_BAD_WIDTH = 15        /* w above 8 */
+    VEMBOPU_BAD_WIDTH = 15        /* w, the bits of a number, above 8 */
 };
 
 /*

@@ -3,8 +3,8 @@
 
 examples.py          writes the sheets and listings of examples/: the documents' cases A to D, a line with garbled ballots and silence, a recipe number with
                      a liar in one bit, the largest number beside a bad station, a large run in which ten bad stations divide the good ones, the longest
-                     listing, and an untidy sheet beside the tidy one that it is rewritten to. The texts are written by hand, the picture of case C by ./draw. Then the logs and outcomes, of case A's run and of another maker's, with what the
-                     program audit prints of them
+                     listing, and an untidy sheet beside the tidy one that it is rewritten to. The texts are written by hand, the picture of case C by
+                     ./draw. Then the logs and outcomes, of case A's run and of another maker's, with what the program audit prints of them
 examples.py --check  holds each sheet to the one made here and to its text, its listing to the model's, and what the program agree prints to the listing; then
                      some inputs of odd lengths. Holds what the program rewrite writes of all of these, and of the sheets of crate runs, to the model's normal
                      form. Holds each log to the one made here, its set to the model's and to the least of all markings, and what the program audit prints to

@@ -135,7 +135,7 @@ def in_bits(call, *told):
 
 
 def of_one_bit():
-    """Cases A to D with w 0 and 1, and sheets that are another thing in each bit."""
+    """Cases A to D with w 0, and with w 1, for which it stands."""
     both = [Record(r, 1, j, j - 2) for r in (1, 2, 3, 5, 6) for j in (2, 3)]
     for w in 0, 1:
         yield given(0, header(Call(4, 1, 1, 1, 1, 8, w)), outcomes=[1, 2, 0, 0] * 3 + BAD)
@@ -147,7 +147,7 @@ def of_one_bit():
 def numbers():
     a, quiet = Call(4, 1, 1, 1, 1, 8), (1, 2, 3)
     yield from of_one_bit()
-    # every number of the widest beside a bad station, 255 too; one station alone, and marked
+    # numbers beside a bad station, 255 too; one station alone, and marked
     for w, number in (2, 0), (2, 2), (3, 5), (8, 170), (8, 255):
         yield given(0, header(a._replace(value=number, w=w)), outcomes=[number, 2, 0, 0] * 3 + BAD)
     yield given(0, header(Call(1, 0, 0, 1, 200, 0, 8)), outcomes=[200, 2, 0, 0])

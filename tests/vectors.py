@@ -330,7 +330,7 @@ def audit_fault(program, vector):
 
 def modelled(call, args):
     """What the model makes of a vector's arguments, in the form of an answer."""
-    buffers = {name: bytes.fromhex(args[name]) for name in ("sheet", "header", "table", "log", "outcomes") if name in args}
+    buffers = {name: bytes.fromhex(args[name]) for name in ("sheet", "header", "table") if name in args}
     cause, made = MODELLED[call](args, **buffers)
     return {"refused": cause} if cause else made
 
@@ -378,15 +378,13 @@ def in_hex(outcomes):
     return bytes(byte for outcome in outcomes for byte in outcome).hex()
 
 
-def model_faults(calls, listings):
-    """A vector's place and what is wrong with what the model makes of it, if anything is."""
-    for place, vector in calls:
-        if vector["call"] in MODELLED:
-            made = modelled(vector["call"], vector["args"])
-            yield f"{place}, by the model", None if made == vector["want"] else f"gives {made}, wanted is {vector['want']}"
-    for place, vector in listings:
-        made = examples.listing(bytes.fromhex(vector["sheet"]))
-        yield f"{place}, by the model", None if made == vector["listing"] else f"gives {made!r}, wanted is {vector['listing']!r}"
+def model_fault(vector):
+    """What is wrong with what the model makes of a vector, if anything is."""
+    if "listing" in vector:
+        made, wanted = examples.listing(bytes.fromhex(vector["sheet"])), vector["listing"]
+    else:
+        made, wanted = modelled(vector["call"], vector["args"]), vector["want"]
+    return None if made == wanted else f"gives {made!r}, wanted is {wanted!r}"
 
 
 # ---- vectors that follow from others
@@ -532,8 +530,8 @@ class Miscounting:
 
 
 BUFFERS = {
-    "read": {"vembopu_read": 2}, "read_bit": {"vembopu_read_bit": 2}, "write": {"vembopu_sheet_len": 2, "vembopu_write": 3}, "exchange": {"vembopu_exchange": 3}, "rehearse": {"vembopu_rehearse": 3},
-    "check": {"vembopu_check": 2},
+    "read": {"vembopu_read": 2}, "read_bit": {"vembopu_read_bit": 2}, "write": {"vembopu_sheet_len": 2, "vembopu_write": 3},
+    "exchange": {"vembopu_exchange": 3}, "rehearse": {"vembopu_rehearse": 3}, "check": {"vembopu_check": 2},
     "station": {"vembopu_advance": 1, "vembopu_advance_lent": 2}, "station_state": {"vembopu_advance": 1, "vembopu_advance_lent": 2},
 }
 
@@ -648,10 +646,15 @@ def stored():
     return calls, listings, [*bits, *rehearsed([*calls, *bits])]
 
 
-def model_checks():
-    calls, listings, derived = stored()
-    for place, fault in model_faults([*calls, *derived], listings):
-        yield f"vectors/{place}: {fault}", fault is None
+def model_checks(calls, listings):
+    """Of the calls that the model has, and of the listings; and that wrong ones of them are told."""
+    held = [(place, vector) for place, vector in calls if vector["call"] in MODELLED] + listings
+    for place, fault in ((place, model_fault(vector)) for place, vector in held):
+        yield f"vectors/{place}, by the model: {fault}", fault is None
+    for vector in samples([vector for _, vector in held if "call" in vector]):
+        wrongs = [planted(vector, ("want", *path)) for path in leaves(vector["want"])]
+        yield f"{vector['call']}: all of {len(wrongs)} wrong answers are told by the model", told(wrongs, model_fault) == len(wrongs) > 0
+    yield "a wrong listing is told by the model", model_fault(planted(listings[0][1], ("listing",))) is not None
 
 
 def checks(library):
@@ -668,13 +671,14 @@ def checks(library):
           f"{len(listings)} listings, {len(again)} sheets rewritten, {len(audits)} logs checked")
     for place, fault in faults:
         yield f"vectors/{place}: {fault}", fault is None
-    yield from model_checks()
+    yield from model_checks([*calls, *derived], listings)
     yield from own_checks(library, [vector for _, vector in [*calls, *derived]], [vector for _, vector in listings])
 
 
 def main():
     if sys.argv[1:] == ["--model"]:
-        return closing(model_checks())
+        calls, listings, derived = stored()
+        return closing(model_checks([*calls, *derived], listings))
     with tempfile.TemporaryDirectory() as folder:
         return closing(checks(linked(folder)))
 
