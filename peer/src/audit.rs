@@ -1,11 +1,12 @@
 //! What the program `audit` is asked for in words, and what it prints: a log and its outcomes, each in a file, checked.
 
-use std::fs::File;
+use std::fs::{self, File};
 use std::io::{self, Read};
 
 use crate::check::check;
-use crate::line::{Cause, Marks, LARGEST_TABLE, STATIONS};
+use crate::line::{Cause, Line, Marks, LARGEST_TABLE, STATIONS};
 use crate::listing::refusal;
+use crate::number::MOST_BITS;
 use crate::outcome::OUTCOME;
 
 /// What is said where the words are wrong.
@@ -41,6 +42,13 @@ impl<'a> Asked<'a> {
         let log = read(self.log, LARGEST_TABLE)?;
         let outcomes = read(self.outcomes, OUTCOME * STATIONS)?;
         Ok(check((self.n, self.t, self.upper), self.sender, &log, &outcomes))
+    }
+
+    /// How many bits' logs the log's file is as long as, if several: the checker keeps to one bit.
+    pub fn several_bits(&self) -> Option<u64> {
+        let line = Line::new(self.n, self.t, self.upper).ok()?;
+        let (len, one) = (fs::metadata(self.log).ok()?.len(), line.table_len() as u64);
+        Some(len / one).filter(|bits| len % one == 0 && (2..=u64::from(MOST_BITS)).contains(bits))
     }
 }
 

@@ -3,13 +3,15 @@
 //! The times are a machine's; the ratios of the medians are what can be compared.
 
 use std::hint::black_box;
+use std::ops::Range;
 
 use crate::by_round::check_by_round;
 use crate::exchange::alone;
 use crate::ffi::{self, Handed, ReadOnly};
-use crate::line::{Header, Line, Marks, SILENCE};
+use crate::line::{Cause, Header, Line, Marks, SILENCE};
 use crate::logs::Logged;
 use crate::lot::Lot;
+use crate::number::MOST_BITS;
 use crate::rehearsal::rehearse;
 use crate::sheet::{self, Record, HEADER_LEN, RECORDS, RECORD_LEN};
 use crate::station::Station;
@@ -18,12 +20,12 @@ use crate::writer;
 
 const SAMPLES: usize = 401;
 
-/// A line of n with t and T as large as can be, its last stations bad, this many.
+/// One bit of a line of n with t and T as large as can be, its last stations bad, this many.
 fn line_of(n: u8, bad: u8) -> (Header, Line) {
     let first = u32::from(n - bad);
     let marks = Marks((((1u64 << n) - 1) >> first << first) as u32);
     let t = (n - 1) / 3;
-    let header = Header { n, t, upper: t, sender: 1, value: 1, marks };
+    let header = Header { n, t, upper: t, sender: 1, value: 1, w: 1, marks };
     (header, header.judge().expect("a line"))
 }
 
@@ -37,9 +39,12 @@ fn copy<'a>(from: &'a [u8], to: &'a mut [u8]) -> Sample<'a> {
     sample(move || black_box(&mut *to).copy_from_slice(black_box(from)))
 }
 
+fn ratio(a: Nanoseconds, b: Nanoseconds) -> f64 {
+    a.median / b.median
+}
+
 /// Medians of the verified call, of this implementation's and of the floor.
 fn line(name: &str, [verified, peer, floor]: [Nanoseconds; 3]) -> String {
-    let ratio = |a: Nanoseconds, b: Nanoseconds| a.median / b.median;
     let times = format!("{:>11.1}{:>11.1}{:>11.1}", verified.median, peer.median, floor.median);
     let ratios = [ratio(verified, peer), ratio(verified, floor), ratio(peer, floor)];
     format!("{name:<40}{times}{:>15.2}{:>16.2}{:>12.2}", ratios[0], ratios[1], ratios[2])
@@ -66,6 +71,64 @@ fn rehearsal(n: u8, bad: u8) -> [Nanoseconds; 3] {
     );
     assert!(logs[0] == logs[1] && outcomes[0] == outcomes[1], "the rehearsals differ");
     timed
+}
+
+/// The verified rehearsal of a number or of one bit.
+fn verified_rehearsal(header: &Header, tables: &mut [u8], log: &mut [u8], outcomes: &mut [u8]) -> u8 {
+    let tables = ReadOnly(Handed::all(black_box(tables)));
+    ffi::rehearse(black_box(header), tables, Handed::all(log), Handed::all(outcomes))
+}
+
+/// The rehearsal of a number of eight bits on the largest line: by the verified call, by eight verified calls of one bit each,
+/// the same two by this implementation, and the floor, which is copying the logs.
+fn number(bad: u8) -> [Nanoseconds; 5] {
+    let (one_bit, line) = largest(bad);
+    let header = Header { value: 0xa5, w: MOST_BITS, ..one_bit };
+    let tables = Lot(1).tables(&header);
+    let mut handed = [0, 1].map(|_| tables.clone());
+    let mut logs = [0; 5].map(|_| vec![0; tables.len()]);
+    let mut outcomes = [0; 4].map(|_| vec![0; line.outcomes_len()]);
+    let bits: Vec<(Header, Range<usize>)> =
+        (0..MOST_BITS).map(|bit| (header.of_bit(bit), line.bit_range(bit))).collect();
+    let ([handed, handed_bits], [out, bits_out, own_out, own_bits_out]) = (&mut handed, &mut outcomes);
+    let [log, bits_log, own_log, own_bits_log, copied] = &mut logs;
+    let by_bits = || {
+        bits.iter().for_each(|(header, at)| {
+            let (tables, log) = (&mut handed_bits[at.clone()], &mut bits_log[at.clone()]);
+            verified_rehearsal(header, tables, log, bits_out);
+        });
+    };
+    let own_by_bits = || {
+        bits.iter().for_each(|(header, at)| {
+            let (tables, log) = (black_box(&tables[at.clone()]), &mut own_bits_log[at.clone()]);
+            rehearse(black_box(header), tables, log, own_bits_out).expect("a bit's run");
+        });
+    };
+    let calls = [
+        sample(|| verified_rehearsal(&header, handed, log, out)),
+        sample(by_bits),
+        sample(|| rehearse(black_box(&header), black_box(&tables), own_log, own_out)),
+        sample(own_by_bits),
+        copy(&tables, copied),
+    ];
+    let timed = time_in_turn(SAMPLES, calls);
+    assert!(logs[..4].iter().all(|log| *log == logs[0]), "the numbers' logs differ");
+    assert!(outcomes[0] == outcomes[2] && outcomes[1] == outcomes[3], "the numbers' outcomes differ");
+    timed
+}
+
+/// A number's lines: in one call, in a call for each bit, and the ratio of the one to the other.
+fn number_lines(bad: u8) -> [String; 3] {
+    let [verified, verified_bits, peer, peer_bits, floor] = number(bad);
+    let (name, ratios) = (
+        format!("one call to 8 calls, ratio, {bad} marked"),
+        [ratio(verified, verified_bits), ratio(peer, peer_bits)],
+    );
+    [
+        line(&format!("rehearsal, n 32, t 10, w 8, {bad} marked"), [verified, peer, floor]),
+        line(&format!("its 8 bits in 8 calls, {bad} marked"), [verified_bits, peer_bits, floor]),
+        format!("{name:<40}{:>11.3}{:>11.3}", ratios[0], ratios[1]),
+    ]
 }
 
 /// An exchange had alone, of the largest line. The floor is copying its table.
@@ -95,32 +158,50 @@ fn exchanged(bad: u8) -> [Nanoseconds; 3] {
     timed
 }
 
-/// A sheet of the largest line with this many chained records.
-fn sheet_of(count: usize) -> (Vec<u8>, Line) {
-    let (header, line) = largest(10);
-    let bad: Vec<u8> = line.stations().filter(|&from| header.marks.bad(from)).collect();
-    let place = |round| bad.iter().flat_map(move |&from| (1..=32).map(move |to| (round, from, to)));
-    let places = (1..=line.rounds()).flat_map(place).take(count);
-    let records = places.map(|(round, from, to)| Record { round, from, to, ballot: round % 3 });
-    (sheet::write(&header, &records.collect::<Vec<_>>()), line)
+/// A sheet of the largest line with this many chained records, as many in each of its number's bits.
+fn sheet_of(w: u8, count: usize) -> (Vec<u8>, Line) {
+    let (one_bit, line) = largest(10);
+    let header = Header { w, ..one_bit };
+    let row = |(bit, round, from)| (1..=32).map(move |to| Record { bit, round, from, to, ballot: round % 3 });
+    let rows = |bit| (1..=line.rounds()).flat_map(move |round| (23..=32).map(move |from| (bit, round, from)));
+    let each = count / usize::from(w);
+    let records: Vec<Record> = (0..w).flat_map(|bit| rows(bit).flat_map(row).take(each)).collect();
+    (sheet::write(&header, &records), line)
 }
 
-/// Reading a sheet with this many records. The floor is copying the table.
-fn reader(count: usize) -> [Nanoseconds; 3] {
-    let (sheet, line) = sheet_of(count);
-    let mut handed = sheet.clone();
-    let mut tables = [0, 1, 2, 3].map(|_| vec![0; line.table_len()]);
+/// Reading a sheet with this many records by both, into tables of this length. The floor is copying them.
+fn reader(
+    sheet: &[u8],
+    len: usize,
+    verified: impl Fn(ReadOnly, Handed) -> u8,
+    peer: impl Fn(&[u8], &mut [u8]) -> Result<Header, Cause>,
+) -> [Nanoseconds; 3] {
+    let mut handed = sheet.to_vec();
+    let mut tables = [0, 1, 2, 3].map(|_| vec![0; len]);
     let [table, own_table, from, to] = &mut tables;
     let timed = time_in_turn(
         SAMPLES,
         [
-            sample(|| ffi::read(ReadOnly(Handed::all(black_box(&mut handed))), Handed::all(table))),
-            sample(|| sheet::read(black_box(&sheet), own_table)),
+            sample(|| verified(ReadOnly(Handed::all(black_box(&mut handed))), Handed::all(table))),
+            sample(|| peer(black_box(sheet), own_table)),
             copy(from, to),
         ],
     );
     assert!(tables[0] == tables[1] && tables[0] != tables[2], "the tables differ");
     timed
+}
+
+/// Reading all bits of a number.
+fn all_read(w: u8, count: usize) -> [Nanoseconds; 3] {
+    let (sheet, line) = sheet_of(w, count);
+    reader(&sheet, usize::from(w) * line.table_len(), ffi::read, sheet::read)
+}
+
+/// Reading one bit of a number of eight.
+fn bit_read(count: usize) -> [Nanoseconds; 3] {
+    let (sheet, line) = sheet_of(MOST_BITS, count);
+    let verified = |sheet: ReadOnly, table: Handed| ffi::read_bit(sheet, 5, table);
+    reader(&sheet, line.table_len(), verified, |sheet, table| sheet::read_bit(sheet, 5, table))
 }
 
 /// A table of the largest line with this many records to write, in the first places of its marked senders or scattered over
@@ -208,10 +289,15 @@ pub fn report(say: &mut impl FnMut(String)) {
         }
     }
     for bad in [0, 10, 32] {
+        number_lines(bad).into_iter().for_each(&mut *say);
+    }
+    for bad in [0, 10, 32] {
         say(line(&format!("exchange, n 32, t 10, {bad} marked"), exchanged(bad)));
     }
     for count in [RECORDS, 0] {
-        say(line(&format!("reader, n 32, t 10, {count} records"), reader(count)));
+        say(line(&format!("reader, n 32, t 10, {count} records"), all_read(1, count)));
+        say(line(&format!("reader, n 32, t 10, w 8, {count} records"), all_read(MOST_BITS, count)));
+        say(line(&format!("reader of a bit, w 8, {count} records"), bit_read(count)));
     }
     for (count, bad, scattered) in [(RECORDS, 10, false), (RECORDS, 10, true), (0, 10, false), (0, 0, false)]
     {

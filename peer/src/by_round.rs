@@ -114,7 +114,7 @@ pub fn check_by_round(
     let (n, t, upper) = numbers;
     // no value but the first byte that it says can be the sender's
     let value = sender_value(read_sender(log[line.place(1, sender, 1)]));
-    let header = Header { n, t, upper, sender, value, marks: Marks(0) };
+    let header = Header { n, t, upper, sender, value, w: 1, marks: Marks(0) };
     let within = std::array::from_fn(|place| if place < line.n() { 255 } else { 0 });
     let mut checking = Checking { line, log, stations: Stations::opened(line, &header), within, broke: 0 };
     (1..=line.rounds()).for_each(|round| checking.round(round));

@@ -145,17 +145,18 @@ pub fn counted(counts: &PerStation, garbled: &PerStation) -> PerStation {
 }
 
 /// What the stations end with. What stands at a bad station's place is never used.
-pub struct Ends<'a> {
-    pub y: &'a PerStation,
-    pub grade: &'a PerStation,
-    pub count: &'a PerStation,
+pub struct Ends {
+    /// The bit, or the number, that each decides.
+    pub value: PerStation,
+    pub grade: PerStation,
+    pub count: PerStation,
 }
 
 /// Writes each station's outcome.
 pub fn write_outcomes(line: &Line, marks: Marks, ends: &Ends, outcomes: &mut [u8]) {
     for (outcome, station) in outcomes.chunks_exact_mut(OUTCOME).zip(line.stations()) {
         let at = usize::from(station) - 1;
-        let good = Outcome::new(ends.y[at], ends.grade[at], ends.count[at]).to_bytes();
+        let good = Outcome::new(ends.value[at], ends.grade[at], ends.count[at]).to_bytes();
         outcome.copy_from_slice(if marks.bad(station) { &BAD } else { &good });
     }
 }
@@ -187,8 +188,8 @@ pub fn alone(
     let z = hear_first(&line, said, &x);
     let garbled_first = garbled(&line, said, read_first);
     speak(&line, marks, &z, second, said);
-    let (y, grade) = hear_second(&line, said);
+    let (value, grade) = hear_second(&line, said);
     let count = counted(&garbled_first, &garbled(&line, said, read_second));
-    write_outcomes(&line, marks, &Ends { y: &y, grade: &grade, count: &count }, outcomes);
+    write_outcomes(&line, marks, &Ends { value, grade, count }, outcomes);
     Ok(())
 }

@@ -14,6 +14,13 @@ use crate::station::{Station, STATION};
 mod exported {
     unsafe extern "C" {
         pub fn vembopu_read(sheet: *const u8, sheet_len: usize, table: *mut u8, table_len: usize) -> u8;
+        pub fn vembopu_read_bit(
+            sheet: *const u8,
+            sheet_len: usize,
+            bit: u8,
+            table: *mut u8,
+            table_len: usize,
+        ) -> u8;
         pub fn vembopu_sheet_len(
             header: *const u8,
             header_len: usize,
@@ -34,6 +41,7 @@ mod exported {
             upper: u8,
             sender: u8,
             value: u8,
+            w: u8,
             marks: u32,
             table: *const u8,
             table_len: usize,
@@ -132,21 +140,28 @@ fn handed_state(station: &Station) -> u64 {
     state(station) | Lot(sum).word() >> 40 << 40
 }
 
-/// Reads a sheet into a lent run table: the refusal's number.
+/// Reads a sheet into the lent tables of all its bits: the refusal's number.
 pub fn read(sheet: ReadOnly, table: Handed) -> u8 {
     let sheet = &sheet.0;
     // SAFETY: the bytes are each in a buffer of its own, borrowed through the call.
     unsafe { exported::vembopu_read(sheet.start, sheet.len, table.start, table.len) }
 }
 
-/// The bytes that the sheet of a header and a run table needs.
+/// Reads one bit of a sheet into its lent table: the refusal's number.
+pub fn read_bit(sheet: ReadOnly, bit: u8, table: Handed) -> u8 {
+    let sheet = &sheet.0;
+    // SAFETY: as for `read`.
+    unsafe { exported::vembopu_read_bit(sheet.start, sheet.len, bit, table.start, table.len) }
+}
+
+/// The bytes that the sheet of a header and its tables needs.
 pub fn sheet_len(header: ReadOnly, table: ReadOnly) -> u64 {
     let (header, table) = (&header.0, &table.0);
     // SAFETY: as for `read`.
     unsafe { exported::vembopu_sheet_len(header.start, header.len, table.start, table.len) }
 }
 
-/// Writes the sheet of a header and a run table into a lent buffer: how many records it has.
+/// Writes the sheet of a header and its tables into a lent buffer: how many records it has.
 pub fn write(header: ReadOnly, table: ReadOnly, sheet: Handed) -> u64 {
     let (header, table) = (&header.0, &table.0);
     // SAFETY: as for `read`.
@@ -155,9 +170,9 @@ pub fn write(header: ReadOnly, table: ReadOnly, sheet: Handed) -> u64 {
     }
 }
 
-/// Rehearses a broadcast: the refusal's number.
+/// Rehearses the broadcasts of a number: the refusal's number.
 pub fn rehearse(header: &Header, table: ReadOnly, log: Handed, outcomes: Handed) -> u8 {
-    let Header { n, t, upper, sender, value, marks } = *header;
+    let Header { n, t, upper, sender, value, w, marks } = *header;
     let table = &table.0;
     // SAFETY: as for `read`.
     unsafe {
@@ -167,6 +182,7 @@ pub fn rehearse(header: &Header, table: ReadOnly, log: Handed, outcomes: Handed)
             upper,
             sender,
             value,
+            w,
             marks.0,
             table.start,
             table.len,

@@ -1,5 +1,5 @@
-//! A second implementation of document 01 with Tickets 1 to 4 of document 02: Byzantine agreement on one bit with two
-//! thresholds.
+//! A second implementation of document 01 with Tickets 1 to 5 of document 02: Byzantine agreement on a number of 1 to 8 bits
+//! with two thresholds.
 //!
 //! It shares no code and no table with the crates, so that the two can be compared byte for byte.
 //! Stations and rounds are numbered from 1, as in the document. T is called `upper`.
@@ -24,6 +24,7 @@ pub mod line;
 pub mod listing;
 pub mod logs;
 pub mod lot;
+pub mod number;
 pub mod outcome;
 pub mod rehearsal;
 pub mod runs;

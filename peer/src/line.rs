@@ -1,18 +1,21 @@
 //! The line: stations, thresholds, rounds, marks, ballot bytes, and the causes of refusal.
 
+use std::ops::Range;
+
+use crate::number::Width;
 use crate::outcome::OUTCOME;
 
 /// The most stations a line can have.
 pub const STATIONS: usize = 32;
-/// The bytes of the largest run table: n 32, t 10, 36 rounds.
+/// The bytes of the largest run table of one bit: n 32, t 10, 36 rounds.
 pub const LARGEST_TABLE: usize = 36_864;
 /// The ballot of a station that stands behind neither value.
 pub const BLANK: u8 = 2;
 /// The byte of a station that says nothing.
 pub const SILENCE: u8 = 255;
 
-/// A cause of refusal, in the order of the document's numbers.
-#[derive(Clone, Copy, PartialEq, Eq, PartialOrd, Ord, Debug)]
+/// A cause of refusal, by the documents' numbers. They aren't given in this order: the last is right after the first.
+#[derive(Clone, Copy, PartialEq, Eq, Debug)]
 pub enum Cause {
     SheetForm = 1,
     StationCount,
@@ -28,11 +31,12 @@ pub enum Cause {
     FromUnmarked,
     Repeated,
     TooManyRecords,
+    Width,
 }
 
 impl Cause {
     /// Every cause, lowest number first.
-    pub const ALL: [Cause; 14] = [
+    pub const ALL: [Cause; 15] = [
         Cause::SheetForm,
         Cause::StationCount,
         Cause::Thresholds,
@@ -47,9 +51,10 @@ impl Cause {
         Cause::FromUnmarked,
         Cause::Repeated,
         Cause::TooManyRecords,
+        Cause::Width,
     ];
 
-    /// The document's number.
+    /// The documents' number.
     pub fn number(self) -> u8 {
         self as u8
     }
@@ -59,12 +64,15 @@ impl Cause {
         match self {
             Cause::SheetForm => {
                 "the sheet's length is not 12 + 8k with k from 0 to 4,096, or a header to be written is not of 12 \
-                 bytes, or byte 5, counted from 0, is not zero"
+                 bytes"
             }
             Cause::StationCount => "n is outside 1 to 32",
             Cause::Thresholds => "t is above T, or t + 2T is not below n",
             Cause::StationNumber => "the sender, or a station's own number, is outside 1 to n",
-            Cause::Value => "the value, or an unmarked station's input to an exchange, is not 0 or 1",
+            Cause::Value => {
+                "the value is not below 2 to the power w, or that of a single station, or an unmarked station's \
+                 input to an exchange, is not 0 or 1"
+            }
             Cause::MarkBeyond => "a mark stands beyond station n",
             Cause::StationState => {
                 "a station's round is outside 1 to R + 1, its value above 1, its z or grade above 2, its count of \
@@ -76,11 +84,13 @@ impl Cause {
             Cause::IndexBeyond => "the chain reaches an index above k",
             Cause::ReachedAgain => "the chain reaches a record again",
             Cause::Record => {
-                "a record's round is outside 1 to R, a station outside 1 to n, or its last two bytes are not zero"
+                "a record's round is outside 1 to R, a station outside 1 to n, its bit or the one to be read not \
+                 below w, or its last byte not zero"
             }
             Cause::FromUnmarked => "a record is from a station that is not marked",
-            Cause::Repeated => "an earlier record of the chain has the same round, from and to",
+            Cause::Repeated => "an earlier record of the chain has the same bit, round, from and to",
             Cause::TooManyRecords => "more than 4,096 records are to be written",
+            Cause::Width => "w is above 8",
         }
     }
 }
@@ -166,9 +176,14 @@ impl Line {
         self.n() * self.n()
     }
 
-    /// The bytes of a run table or log: R·n·n.
+    /// The bytes of one bit's table or log: R·n·n.
     pub fn table_len(&self) -> usize {
         usize::from(self.rounds()) * self.round_len()
+    }
+
+    /// The bytes of a number's tables or logs, one after another: w·R·n·n.
+    pub fn tables_len(&self, width: Width) -> usize {
+        width.count() * self.table_len()
     }
 
     /// The bytes of the outcomes.
@@ -176,13 +191,19 @@ impl Line {
         OUTCOME * self.n()
     }
 
-    /// Where the byte of this round stands, from one station to another.
+    /// Where the byte of this round stands in a bit's table, from one station to another.
     pub fn place(&self, round: u8, from: u8, to: u8) -> usize {
         let before = (usize::from(round) - 1) * self.n() + usize::from(from) - 1;
         before * self.n() + usize::from(to) - 1
     }
 
-    /// Where the bytes from bad stations stand in a table, in its order.
+    /// A bit's part of a number's tables or logs: "one after another, bit 0 first".
+    pub fn bit_range(&self, bit: u8) -> Range<usize> {
+        let start = usize::from(bit) * self.table_len();
+        start..start + self.table_len()
+    }
+
+    /// Where the bytes from bad stations stand in a bit's table, in its order.
     pub fn bad_places(self, marks: Marks) -> impl Iterator<Item = usize> {
         let rows = (1..=self.rounds()).flat_map(move |round| marks.stations().map(move |from| (round, from)));
         rows.flat_map(move |(round, from)| self.stations().map(move |to| self.place(round, from, to)))
@@ -241,24 +262,38 @@ impl Marks {
     }
 }
 
-/// What a run is told, besides its table.
+/// What a run is told, besides its tables.
 #[derive(Clone, Copy, PartialEq, Eq, Debug)]
 pub struct Header {
     pub n: u8,
     pub t: u8,
     pub upper: u8,
     pub sender: u8,
+    /// The number that is sent.
     pub value: u8,
+    /// How many bits the number has, as it is told: 0 stands for 1.
+    pub w: u8,
     pub marks: Marks,
 }
 
 impl Header {
-    /// Causes 2 to 6, the lowest that holds.
+    /// Cause 15, then 2 to 6, the first that holds.
     pub fn judge(&self) -> Result<Line, Cause> {
+        let width = self.width()?;
         let line = Line::new(self.n, self.t, self.upper)?;
         require(line.has(self.sender), Cause::StationNumber)?;
-        require(self.value <= 1, Cause::Value)?;
+        require(width.holds(self.value), Cause::Value)?;
         self.marks.within(&line)?;
         Ok(line)
+    }
+
+    /// How many bits the number has. Cause 15.
+    pub fn width(&self) -> Result<Width, Cause> {
+        Width::new(self.w)
+    }
+
+    /// What one bit's broadcast is told: "all with the same marks and sender".
+    pub fn of_bit(&self, bit: u8) -> Header {
+        Header { value: self.value >> bit & 1, w: 1, ..*self }
     }
 }

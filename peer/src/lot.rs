@@ -1,7 +1,11 @@
 //! Runs and sheets drawn by lot, the same ones every time for the same seed.
 
 use crate::line::{Header, Line, Marks};
+use crate::number::MOST_BITS;
 use crate::sheet::Record;
+
+/// Tables of a number that are no longer are short.
+const SHORT: usize = 4_096;
 
 /// SplitMix64.
 pub struct Lot(pub u64);
@@ -66,14 +70,33 @@ impl Lot {
         marks
     }
 
-    /// A header that is accepted, with any number of bad stations.
+    /// A header of one bit that is accepted, with any number of bad stations.
     pub fn header(&mut self, most: u8) -> Header {
         let line = self.line(most);
         let f = self.below(line.n() as u64 + 1) as u32;
         let marks = self.marks(&line, f);
         let sender = 1 + self.below(line.n() as u64) as u8;
         let value = self.below(2) as u8;
-        Header { n: line.n() as u8, t: line.t(), upper: line.upper(), sender, value, marks }
+        Header { n: line.n() as u8, t: line.t(), upper: line.upper(), sender, value, w: 0, marks }
+    }
+
+    /// The same header with a number of any width.
+    pub fn numbered(&mut self, header: &Header) -> Header {
+        self.number_within(header, MOST_BITS)
+    }
+
+    /// The same header with a number whose tables are short, seldom of any width, since long tables take long.
+    pub fn numbered_short(&mut self, header: &Header) -> Header {
+        let widest = if self.one_in(300) { MOST_BITS } else { widest_short(header) };
+        self.number_within(header, widest)
+    }
+
+    /// The same header with a number of at most so many bits.
+    fn number_within(&mut self, header: &Header, widest: u8) -> Header {
+        let w = self.below(u64::from(widest) + 1) as u8;
+        let largest = u8::MAX >> (MOST_BITS - w.max(1));
+        let any = self.byte() & largest;
+        Header { w, value: self.pick(&[0, largest, any, any]), ..*header }
     }
 
     /// A header that is accepted, with f near one of the thresholds.
@@ -107,10 +130,18 @@ impl Lot {
         (0..len).map(|place| byte(self, place)).collect()
     }
 
+    /// The tables of a header's number, each bit's by a habit of its own.
+    pub fn tables(&mut self, header: &Header) -> Vec<u8> {
+        let line = header.judge().expect("an accepted header");
+        let bits = header.width().expect("an accepted header").bits();
+        bits.flat_map(|_| self.table(&line)).collect()
+    }
+
     /// Records that the reader accepts with this header: all different, from bad stations.
     pub fn records(&mut self, header: &Header) -> Vec<Record> {
         let line = header.judge().expect("an accepted header");
-        let mut records = Vec::new();
+        let bits = header.width().expect("an accepted header").count();
+        let mut records: Vec<Record> = Vec::new();
         if header.marks.count() == 0 {
             return records;
         }
@@ -118,9 +149,10 @@ impl Lot {
         for _ in 0..self.below(40) {
             let round = 1 + self.below(line.rounds().into()) as u8;
             let (from, to) = (self.pick(&bad), 1 + self.below(line.n() as u64) as u8);
-            let ballot = self.ballot();
-            if !records.iter().any(|r: &Record| (r.round, r.from, r.to) == (round, from, to)) {
-                records.push(Record { round, from, to, ballot });
+            let bit = if bits == 1 { 0 } else { self.below(bits as u64) as u8 };
+            let record = Record { bit, round, from, to, ballot: self.ballot() };
+            if !records.iter().any(|other| other.place(&line) == record.place(&line)) {
+                records.push(record);
             }
         }
         records
@@ -148,4 +180,11 @@ impl Lot {
             _ => exact,
         }
     }
+}
+
+/// The largest w that keeps the tables of a header's line short; 1 where none does.
+pub fn widest_short(header: &Header) -> u8 {
+    let line = Line::new(header.n, header.t, header.upper);
+    let short = line.map_or(1, |line| SHORT / line.table_len());
+    short.clamp(1, MOST_BITS.into()) as u8
 }

@@ -17,11 +17,12 @@ usage: peer listing [SHEET]    the listing of a run sheet
        peer text [SHEET]       a run sheet as text, in the normal form
        peer rewrite [SHEET]    a run sheet's normal form, as a sheet
        peer draw [SHEET]       a drawing of the run, as SVG
-       peer log [SHEET]        the run's log, as bytes
+       peer log [SHEET]        the run's log, as bytes; of a number the logs of its bits, bit 0's first
        peer outcomes [SHEET]   the run's outcomes, as bytes
        peer runs [RUNS]        what the program of crate runs must print of stored runs
        peer audit N T UPPER SENDER LOG OUTCOMES
-                               the stations that broke the rules, by a log's file and its outcomes' file
+                               the stations that broke the rules, by the files of one bit's log and of its
+                               outcomes
 A SHEET, TEXT or RUNS that isn't named, or is named -, is read from standard input. What is made goes to
 standard output.
 Exit status: 0 if it is made, 1 if the sheet or the log is refused or the text is wrong, 2 for any other trouble.
@@ -220,7 +221,16 @@ fn make_runs(file: Option<&str>) -> Result<Made, String> {
 fn make_audit(words: &[String]) -> Result<Made, String> {
     let asked = Asked::new(words).ok_or(audit::WANTED)?;
     let answer = asked.checked().map_err(|unread| format!("{}: {}", unread.file, unread.error))?;
-    Ok(Made { bytes: audit::line(answer).into_bytes(), refused: answer.err().map(words_of) })
+    let why = |cause| match asked.several_bits() {
+        Some(bits) if cause == Cause::Length => {
+            format!(
+                "{}; the log is as long as {bits} bits' logs, and one bit is checked at a time",
+                words_of(cause)
+            )
+        }
+        _ => words_of(cause),
+    };
+    Ok(Made { bytes: audit::line(answer).into_bytes(), refused: answer.err().map(why) })
 }
 
 fn refusal(file: Option<&str>, cause: Cause) -> String {

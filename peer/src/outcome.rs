@@ -1,4 +1,4 @@
-//! How a station ends: four bytes of the outcomes.
+//! How a station ends, in one bit or in the number of all bits: four bytes of the outcomes.
 
 use std::ops::Range;
 
@@ -13,11 +13,16 @@ pub struct Outcome {
     pub value: u8,
     pub grade: u8,
     pub flag: u8,
-    /// The rounds in which at least one ballot that it expected was garbled.
+    /// The rounds in which at least one ballot that it expected was garbled; of a number those of the bit that has most.
     pub count: u8,
 }
 
 impl Outcome {
+    /// "A bad station is told by grade 255, since 255 can be a recipe."
+    pub fn is_bad(&self) -> bool {
+        self.grade == 255
+    }
+
     /// With the flag that the grade gives.
     pub fn new(value: u8, grade: u8, count: u8) -> Outcome {
         Outcome { value, grade, flag: flag(grade), count }

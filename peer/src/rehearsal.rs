@@ -1,4 +1,5 @@
-//! The rehearsal of a whole broadcast: every round's ballots into the log, then the outcomes.
+//! The rehearsal of a number: a whole broadcast for each of its bits, every round's ballots into the bit's log, then the
+//! outcomes of the number.
 
 use crate::ballot::{king_value, read_first, read_king, read_second, read_sender, sender_value};
 use crate::exchange::{counted, garbled, hear_first, hear_second, speak, write_outcomes, Ends, PerStation};
@@ -73,8 +74,8 @@ impl<'a> Stations<'a> {
     }
 
     /// What they end with.
-    pub fn ends(&self) -> Ends<'_> {
-        Ends { y: &self.value, grade: &self.grade, count: &self.count }
+    pub fn ends(&self) -> Ends {
+        Ends { value: self.value, grade: self.grade, count: self.count }
     }
 }
 
@@ -85,13 +86,8 @@ fn only(station: u8, ballot: u8) -> PerStation {
     ballots
 }
 
-/// Rehearses a broadcast. Causes 2 to 6 and 8; a refusal leaves log and outcomes as they were.
-pub fn rehearse(header: &Header, table: &[u8], log: &mut [u8], outcomes: &mut [u8]) -> Result<(), Cause> {
-    let line = header.judge()?;
-    require(table.len() == line.table_len(), Cause::Length)?;
-    require(log.len() == line.table_len(), Cause::Length)?;
-    require(outcomes.len() == line.outcomes_len(), Cause::Length)?;
-
+/// One bit's broadcast into its log: what the stations end with.
+fn broadcast(line: Line, header: &Header, table: &[u8], log: &mut [u8]) -> Ends {
     let mut stations = Stations::opened(line, header);
     let rounds = log.chunks_exact_mut(line.round_len()).zip(table.chunks_exact(line.round_len()));
     for ((said, from_table), round) in rounds.zip(1..) {
@@ -99,6 +95,34 @@ pub fn rehearse(header: &Header, table: &[u8], log: &mut [u8], outcomes: &mut [u
         speak(&line, header.marks, &stations.ballots(part), from_table, said);
         stations.hear(part, said);
     }
-    write_outcomes(&line, header.marks, &stations.ends(), outcomes);
+    stations.ends()
+}
+
+impl Ends {
+    /// What the stations end with, a bit put to those before it: "The garbled count is the largest of the bits' counts, the
+    /// grade the smallest." A flag that any bit raises is raised by the smallest grade.
+    fn with(self, bit: u8, of_bit: &Ends) -> Ends {
+        Ends {
+            value: std::array::from_fn(|at| self.value[at] | of_bit.value[at] << bit),
+            grade: std::array::from_fn(|at| self.grade[at].min(of_bit.grade[at])),
+            count: std::array::from_fn(|at| self.count[at].max(of_bit.count[at])),
+        }
+    }
+}
+
+/// Rehearses the broadcasts of a number, one bit after another. Causes 15, 2 to 6 and 8; a refusal leaves logs and outcomes as
+/// they were.
+pub fn rehearse(header: &Header, tables: &[u8], logs: &mut [u8], outcomes: &mut [u8]) -> Result<(), Cause> {
+    let (line, width) = (header.judge()?, header.width()?);
+    require(tables.len() == line.tables_len(width), Cause::Length)?;
+    require(logs.len() == line.tables_len(width), Cause::Length)?;
+    require(outcomes.len() == line.outcomes_len(), Cause::Length)?;
+
+    let mut ends = Ends { value: [0; STATIONS], grade: [2; STATIONS], count: [0; STATIONS] };
+    let parts = logs.chunks_exact_mut(line.table_len()).zip(tables.chunks_exact(line.table_len()));
+    for ((log, table), bit) in parts.zip(width.bits()) {
+        ends = ends.with(bit, &broadcast(line, &header.of_bit(bit), table, log));
+    }
+    write_outcomes(&line, header.marks, &ends, outcomes);
     Ok(())
 }

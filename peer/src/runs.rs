@@ -28,29 +28,26 @@ fn take<'a>(input: &mut &'a [u8]) -> Option<Stored<'a>> {
 /// The buffers that the runs share.
 struct Buffers {
     table: Vec<u8>,
-    /// Lent where the largest table is too short.
-    longer: Vec<u8>,
-    log: Vec<u8>,
     outcomes: [u8; OUTCOME * STATIONS],
 }
 
 impl Buffers {
     fn new() -> Buffers {
-        let (table, longer) = (vec![255; LARGEST_TABLE], vec![0; 65_536]);
-        Buffers { table, longer, log: vec![255; LARGEST_TABLE], outcomes: [255; OUTCOME * STATIONS] }
+        Buffers { table: vec![255; LARGEST_TABLE], outcomes: [255; OUTCOME * STATIONS] }
     }
 
-    /// Reads a run's sheet and, if it is accepted, rehearses it. What is printed after the run's number.
+    /// Reads a run's sheet and, if it is accepted, rehearses it. What is printed after the run's number. Where the largest
+    /// table of one bit is too short, zeros are lent.
     fn run(&mut self, stored: &Stored) -> String {
-        let buffer = if stored.lent <= LARGEST_TABLE { &mut self.table } else { &mut self.longer };
-        let table = &mut buffer[..stored.lent];
+        let mut longer = vec![0; stored.lent];
+        let table = self.table.get_mut(..stored.lent).unwrap_or(&mut longer);
         let reading = sheet::read(stored.sheet, table);
         let mut line = format!("{}; table {}", words(&reading), checksum(table));
         if let Ok(header) = reading {
-            let log = &mut self.log[..stored.lent];
+            let mut log = vec![255; stored.lent];
             let outcomes = &mut self.outcomes[..OUTCOME * usize::from(header.n)];
-            rehearse(&header, table, log, outcomes).expect("an accepted sheet's run");
-            let sums = [checksum(log), checksum(outcomes)];
+            rehearse(&header, table, &mut log, outcomes).expect("an accepted sheet's run");
+            let sums = [checksum(&log), checksum(outcomes)];
             write!(line, "; accepted:{}; sums{}", numbers(outcomes), numbers(&sums)).expect("a string");
         }
         line
@@ -62,11 +59,11 @@ fn numbers<N: ToString>(numbers: &[N]) -> String {
     numbers.iter().map(|number| format!(" {}", number.to_string())).collect()
 }
 
-/// The header's numbers, or the refusal.
+/// The header's numbers, w as it stands there, or the refusal.
 fn words(reading: &Result<Header, Cause>) -> String {
     match reading {
-        Ok(Header { n, t, upper, sender, value, marks }) => {
-            format!("{n} {t} {upper} {sender} {value} {}", marks.0)
+        Ok(Header { n, t, upper, sender, value, w, marks }) => {
+            format!("{n} {t} {upper} {sender} {value} {w} {}", marks.0)
         }
         Err(cause) => format!("refused {}", cause.number()),
     }

@@ -12,14 +12,16 @@
 //! round 1-3 5 6 from 1 to 3 ballot 1
 //! ```
 //!
-//! Each of the first six words begins one line, in any order; `bad none` where no station is bad. Where
-//! several numbers may stand there may be ranges, or `all`: every round, every bad station as `from`, every
+//! Each of the first six words begins one line, in any order; `bad none` where no station is bad. With a line `w 3` the value
+//! is a number of three bits, and a record's line begins with its bits, as `bit 0 2 round 1 from 1 to 2 ballot 0`. Where
+//! several numbers may stand there may be ranges, or `all`: every bit, every round, every bad station as `from`, every
 //! station as `to`. A ballot is `0`, `1`, `blank`, `silence` or a byte's number. `#` begins a comment.
-//! Records are chained in the order of the lines, within a line by round, then from, then to.
+//! Records are chained in the order of the lines, within a line by bit, then round, then from, then to.
 
 use std::fmt;
 
 use crate::line::{Cause, Header, Line, Marks, BLANK, SILENCE};
+use crate::number::{Width, MOST_BITS};
 use crate::sheet::{self, Record, RECORDS};
 
 /// The most bytes of a text: many times what 4,096 records can need.
@@ -42,9 +44,11 @@ impl fmt::Display for Error {
 }
 
 /// The words that begin the header's lines, in the normal form's order.
-const FIELDS: [&str; 6] = ["n", "t", "T", "sender", "value", "bad"];
-/// The words that divide a record's line, in their order.
-const PARTS: [&str; 4] = ["round", "from", "to", "ballot"];
+const FIELDS: [&str; 7] = ["n", "t", "T", "sender", "w", "value", "bad"];
+/// Where the one stands whose line may be missing.
+const W: usize = 4;
+/// The words that divide a record's line, in their order. It begins with one of the first two.
+const PARTS: [&str; 5] = ["bit", "round", "from", "to", "ballot"];
 
 /// A line of the text: its number, its first word and the words after it.
 struct Entry<'a> {
@@ -93,12 +97,13 @@ impl Entry<'_> {
         Ok(numbers)
     }
 
-    /// The words of a record's line after each of its four parts' words.
-    fn parts(&self) -> Result<[&[&str]; 4], Error> {
+    /// The words of a record's line after each of its parts' words; none after `bit` where it begins with `round`.
+    fn parts(&self) -> Result<[&[&str]; 5], Error> {
         let end = |words: &[&str]| words.iter().position(|word| PARTS.contains(word)).unwrap_or(words.len());
-        let (mut rest, mut parts) = (&self.rest[..], [&[][..]; 4]);
-        (parts[0], rest) = rest.split_at(end(rest));
-        for (words, part) in parts[1..].iter_mut().zip(&PARTS[1..]) {
+        let (mut rest, mut parts) = (&self.rest[..], [&[][..]; 5]);
+        let first = usize::from(!self.tells_bits());
+        (parts[first], rest) = rest.split_at(end(rest));
+        for (words, part) in parts.iter_mut().zip(&PARTS).skip(first + 1) {
             match rest.split_first() {
                 Some((word, after)) if word == part => (*words, rest) = after.split_at(end(after)),
                 Some((word, _)) => return self.error(format!("`{part}` is wanted before `{word}`")),
@@ -108,6 +113,27 @@ impl Entry<'_> {
         match rest.first() {
             Some(word) => self.error(format!("`{word}` is one too many")),
             None => Ok(parts),
+        }
+    }
+
+    /// Whether a record's line begins with its bits.
+    fn tells_bits(&self) -> bool {
+        self.first == PARTS[0]
+    }
+
+    /// The bits of a record's line, by the words after `bit`. It is bit 0 where there is no other.
+    fn bits(&self, words: &[&str], width: Width) -> Result<Vec<u8>, Error> {
+        let count = width.count();
+        if !self.tells_bits() && count > 1 {
+            return self.error(format!("`bit` is wanted before `round`: the number has {count} bits"));
+        }
+        if !self.tells_bits() {
+            return Ok(vec![0]);
+        }
+        let bits = self.list(PARTS[0], words, width.bits().collect())?;
+        match bits.iter().find(|&&bit| !width.has(bit)) {
+            Some(bit) => self.error(format!("bit {bit} is beyond the last bit {}", count - 1)),
+            None => Ok(bits),
         }
     }
 
@@ -170,9 +196,9 @@ fn entries(text: &str) -> impl Iterator<Item = Entry<'_>> {
     })
 }
 
-/// The header's lines in the order of [`FIELDS`], and the records' lines.
-fn sorted(text: &str) -> Result<([Entry<'_>; 6], Vec<Entry<'_>>), Error> {
-    let mut fields: [Option<Entry>; 6] = Default::default();
+/// The header's lines in the order of [`FIELDS`], and the records' lines. A text without `w` is one with `w 0`.
+fn sorted(text: &str) -> Result<([Entry<'_>; 7], Vec<Entry<'_>>), Error> {
+    let mut fields: [Option<Entry>; 7] = Default::default();
     let mut records = Vec::new();
     for entry in entries(text) {
         match FIELDS.iter().position(|&field| field == entry.first) {
@@ -182,16 +208,15 @@ fn sorted(text: &str) -> Result<([Entry<'_>; 6], Vec<Entry<'_>>), Error> {
                 }
                 None => fields[at] = Some(entry),
             },
-            None if entry.first == PARTS[0] => records.push(entry),
+            None if PARTS[..2].contains(&entry.first) => records.push(entry),
             None => {
-                let words = FIELDS.join(", ");
-                return entry.error(format!(
-                    "a line begins with {words} or {}, not with `{}`",
-                    PARTS[0], entry.first
-                ));
+                let words = [&FIELDS[..], &PARTS[..1]].concat().join(", ");
+                let (last, other) = (PARTS[1], entry.first);
+                return entry.error(format!("a line begins with {words} or {last}, not with `{other}`"));
             }
         }
     }
+    fields[W].get_or_insert(Entry { line: 0, first: FIELDS[W], rest: vec!["0"] });
     if let Some(at) = fields.iter().position(Option::is_none) {
         return Err(Error { line: 0, what: format!("no line begins with `{}`", FIELDS[at]) });
     }
@@ -199,17 +224,19 @@ fn sorted(text: &str) -> Result<([Entry<'_>; 6], Vec<Entry<'_>>), Error> {
 }
 
 /// The header, judged as the reader judges it.
-fn header([n, t, upper, sender, value, bad]: &[Entry; 6]) -> Result<Header, Error> {
+fn header([n, t, upper, sender, w, value, bad]: &[Entry; 7]) -> Result<Header, Error> {
     let header = Header {
         n: n.number()?,
         t: t.number()?,
         upper: upper.number()?,
         sender: sender.number()?,
         value: value.number()?,
+        w: w.number()?,
         marks: Marks(0),
     };
     match header.judge() {
         Ok(_) => Ok(Header { marks: marks(bad, header.n)?, ..header }),
+        Err(Cause::Width) => w.error(format!("w {} is above {MOST_BITS}", header.w)),
         Err(Cause::StationCount) => n.error(format!("n {} is outside 1 to 32", header.n)),
         Err(Cause::Thresholds) if header.t > header.upper => {
             t.error(format!("t {} is above T {}", header.t, header.upper))
@@ -219,7 +246,11 @@ fn header([n, t, upper, sender, value, bad]: &[Entry; 6]) -> Result<Header, Erro
             upper.error(format!("t + 2T is {sum}, which is not below n {}", header.n))
         }
         Err(Cause::StationNumber) => Err(sender.station(header.sender, header.n).unwrap_err()),
-        Err(_) => value.error(format!("value {} is not 0 or 1", header.value)),
+        Err(_) if header.w <= 1 => value.error(format!("value {} is not 0 or 1", header.value)),
+        Err(_) => {
+            let Header { value: number, w, .. } = header;
+            value.error(format!("value {number} is not below {}, 2 to the power w {w}", 1 << w))
+        }
     }
 }
 
@@ -235,10 +266,11 @@ fn marks(bad: &Entry, n: u8) -> Result<Marks, Error> {
 }
 
 /// The records of one line, in their order.
-fn records_of(entry: &Entry, line: &Line, marks: Marks) -> Result<Vec<Record>, Error> {
-    let n = line.n() as u8;
-    let [rounds, froms, tos, ballot] = entry.parts()?;
+fn records_of(entry: &Entry, line: &Line, header: &Header) -> Result<Vec<Record>, Error> {
+    let (n, marks, width) = (header.n, header.marks, header.width().expect("the header is judged"));
+    let [bits, rounds, froms, tos, ballot] = entry.parts()?;
     let bad = line.stations().filter(|&station| marks.bad(station)).collect();
+    let bits = entry.bits(bits, width)?;
     let rounds = entry.list("round", rounds, (1..=line.rounds()).collect())?;
     let froms = entry.list("from", froms, bad)?;
     let tos = entry.list("to", tos, line.stations().collect())?;
@@ -248,13 +280,18 @@ fn records_of(entry: &Entry, line: &Line, marks: Marks) -> Result<Vec<Record>, E
     if let Some(from) = froms.iter().find(|&&from| !marks.bad(from)) {
         return entry.error(format!("station {from} is not bad; only a bad station's ballots can be given"));
     }
-    let mut records = Vec::new();
-    for &round in &rounds {
-        for &from in &froms {
-            records.extend(tos.iter().map(|&to| Record { round, from, to, ballot }));
-        }
+    let in_bits = bits.iter().flat_map(|&bit| rounds.iter().map(move |&round| (bit, round)));
+    let rows = in_bits.flat_map(|(bit, round)| froms.iter().map(move |&from| (bit, round, from)));
+    let told = |(bit, round, from)| tos.iter().map(move |&to| Record { bit, round, from, to, ballot });
+    Ok(rows.flat_map(told).collect())
+}
+
+/// A record's bit as its line begins, nothing where there is one bit.
+fn bit_text(bit: u8, width: Width) -> String {
+    match width.count() {
+        1 => String::new(),
+        _ => format!("{} {bit} ", PARTS[0]),
     }
-    Ok(records)
 }
 
 /// The sheet that a text stands for.
@@ -265,15 +302,18 @@ pub fn to_sheet(text: &str) -> Result<Vec<u8>, Error> {
     let (fields, entries) = sorted(text)?;
     let header = header(&fields)?;
     let line = header.judge().expect("the header is judged");
-    let mut given_in = vec![0; line.table_len()];
+    let width = header.width().expect("the header is judged");
+    let mut given_in = vec![0; line.tables_len(width)];
     let mut records = Vec::new();
     for entry in &entries {
-        for record in records_of(entry, &line, header.marks)? {
-            let Record { round, from, to, .. } = record;
-            let earlier = &mut given_in[line.place(round, from, to)];
+        for record in records_of(entry, &line, &header)? {
+            let Record { bit, round, from, to, .. } = record;
+            let earlier = &mut given_in[record.place(&line)];
             if *earlier != 0 {
-                return entry
-                    .error(format!("round {round} from {from} to {to} is already given in line {earlier}"));
+                let bit = bit_text(bit, width);
+                return entry.error(format!(
+                    "{bit}round {round} from {from} to {to} is already given in line {earlier}"
+                ));
             }
             *earlier = entry.line;
             records.push(record);
@@ -303,21 +343,28 @@ pub fn ballot_text(ballot: u8) -> String {
     }
 }
 
+/// A header's lines.
+fn header_text(header: &Header) -> String {
+    let Header { n, t, upper, sender, value, w, marks } = *header;
+    let bad: Vec<u8> = marks.stations().collect();
+    let bad = if bad.is_empty() { "none".to_string() } else { list_text(&bad) };
+    // without it byte 5 is 0
+    let w = if w == 0 { String::new() } else { format!("w {w}\n") };
+    format!("n {n}\nt {t}\nT {upper}\nsender {sender}\n{w}value {value}\nbad {bad}\n")
+}
+
 /// A sheet as text in the normal form, which gives the same header and chain back. Neighbours in the
 /// chain that differ only in an ascending `to` share a line. Every cause but 8.
 pub fn of_sheet(bytes: &[u8]) -> Result<String, Cause> {
     let (header, records) = sheet::records(bytes)?;
-    let Header { n, t, upper, sender, value, marks } = header;
-    let bad: Vec<u8> = (1..=n).filter(|&station| marks.bad(station)).collect();
-    let bad = if bad.is_empty() { "none".to_string() } else { list_text(&bad) };
-    let mut text = format!("n {n}\nt {t}\nT {upper}\nsender {sender}\nvalue {value}\nbad {bad}\n");
-    let alike =
-        |a: &Record, b: &Record| (a.round, a.from, a.ballot) == (b.round, b.from, b.ballot) && a.to < b.to;
+    let mut text = header_text(&header);
+    let told = |record: &Record| (record.bit, record.round, record.from, record.ballot);
+    let alike = |a: &Record, b: &Record| told(a) == told(b) && a.to < b.to;
     for same in records.chunk_by(alike) {
-        let Record { round, from, ballot, .. } = same[0];
+        let (bit, round, from, ballot) = told(&same[0]);
         let to: Vec<u8> = same.iter().map(|record| record.to).collect();
-        let (to, ballot) = (list_text(&to), ballot_text(ballot));
-        text.push_str(&format!("round {round} from {from} to {to} ballot {ballot}\n"));
+        let (bit, to, ballot) = (bit_text(bit, header.width()?), list_text(&to), ballot_text(ballot));
+        text.push_str(&format!("{bit}round {round} from {from} to {to} ballot {ballot}\n"));
     }
     Ok(text)
 }

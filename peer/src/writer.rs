@@ -1,4 +1,4 @@
-//! The writer of run sheets: from a header's bytes and a run table to a sheet in its normal form.
+//! The writer of run sheets: from a header's bytes and the tables of its number's bits to a sheet in its normal form.
 
 use std::mem::take;
 
@@ -6,17 +6,19 @@ use crate::line::{require, Cause, Line, Marks, SILENCE};
 use crate::listing::refusal;
 use crate::sheet::{self, Record, HEADER_LEN, RECORDS, RECORD_LEN};
 
-/// What a bad station says in one round.
+/// What a bad station says in one round of one bit's broadcast.
 struct Row<'a> {
+    bit: u8,
     round: u8,
     from: u8,
     ballots: &'a [u8],
 }
 
-/// The rows of the bad stations in the order of the table: by round, then from.
-fn rows(line: Line, marks: Marks, table: &[u8]) -> impl Iterator<Item = Row<'_>> {
-    table.chunks_exact(line.round_len()).zip(1..).flat_map(move |(said, round)| {
-        marks.stations().map(move |from| Row { round, from, ballots: line.from_one(from, said) })
+/// The rows of the bad stations in the order of the tables: "by bit before round", then from.
+fn rows(line: Line, marks: Marks, tables: &[u8]) -> impl Iterator<Item = Row<'_>> {
+    let rounds = (0..).flat_map(move |bit| (1..=line.rounds()).map(move |round| (bit, round)));
+    tables.chunks_exact(line.round_len()).zip(rounds).flat_map(move |(said, (bit, round))| {
+        marks.stations().map(move |from| Row { bit, round, from, ballots: line.from_one(from, said) })
     })
 }
 
@@ -39,33 +41,33 @@ impl Judged {
     }
 }
 
-/// Every cause of writing but the sheet buffer's length, in their order: 1 to 6, 8 of the table, 14. The first
+/// Every cause of writing but the sheet buffer's length, in their order: 1, 15, 2 to 6, 8 of the tables, 14. The first
 /// index handed in is not looked at.
-fn judge(header: &[u8], table: &[u8]) -> Result<Judged, Cause> {
+fn judge(header: &[u8], tables: &[u8]) -> Result<Judged, Cause> {
     require(header.len() == HEADER_LEN, Cause::SheetForm)?;
     let header = sheet::header(header)?;
-    let line = header.judge()?;
-    require(table.len() == line.table_len(), Cause::Length)?;
+    let (line, width) = (header.judge()?, header.width()?);
+    require(tables.len() == line.tables_len(width), Cause::Length)?;
     let marks = header.marks;
-    let records = rows(line, marks, table).map(|row| usize::from(spoken(&row))).sum();
+    let records = rows(line, marks, tables).map(|row| usize::from(spoken(&row))).sum();
     require(records <= RECORDS, Cause::TooManyRecords)?;
     Ok(Judged { line, marks, records })
 }
 
-/// The bytes that the sheet of a header and a table needs: 12 + 8k.
-pub fn sheet_len(header: &[u8], table: &[u8]) -> Result<usize, Cause> {
-    judge(header, table).map(|judged| judged.len())
+/// The bytes that the sheet of a header and its tables needs: 12 + 8k.
+pub fn sheet_len(header: &[u8], tables: &[u8]) -> Result<usize, Cause> {
+    judge(header, tables).map(|judged| judged.len())
 }
 
-/// Writes the sheet of a header and a table into a lent buffer of its exact length: how many records it has. A
+/// Writes the sheet of a header and its tables into a lent buffer of its exact length: how many records it has. A
 /// refusal leaves the buffer as it was.
-pub fn write(header: &[u8], table: &[u8], sheet: &mut [u8]) -> Result<usize, Cause> {
-    let judged = judge(header, table)?;
+pub fn write(header: &[u8], tables: &[u8], sheet: &mut [u8]) -> Result<usize, Cause> {
+    let judged = judge(header, tables)?;
     require(sheet.len() == judged.len(), Cause::Length)?;
     let (written_header, records) = sheet.split_at_mut(HEADER_LEN);
     written_header.copy_from_slice(header);
     written_header[6..8].copy_from_slice(&u16::from(judged.records > 0).to_le_bytes());
-    write_records(rows(judged.line, judged.marks, table), records);
+    write_records(rows(judged.line, judged.marks, tables), records);
     Ok(judged.records)
 }
 
@@ -90,11 +92,11 @@ fn write_records<'a>(rows: impl Iterator<Item = Row<'a>>, records: &mut [u8]) {
 /// Writes a row's records; `next` follows on the first of them. Where no ballot is silence there is nothing to choose,
 /// which is quicker.
 fn write_row(row: &Row, next: u16, places: &mut [u8]) {
-    let Row { round, from, ballots } = *row;
+    let Row { bit, round, from, ballots } = *row;
     let places = places.chunks_exact_mut(RECORD_LEN);
     let all_spoken = places.len() == ballots.len();
     let put = |((place, next), (&ballot, to)): ((&mut [u8], u16), (&u8, u8))| {
-        place.copy_from_slice(&Record { round, from, to, ballot }.bytes(next));
+        place.copy_from_slice(&Record { bit, round, from, to, ballot }.bytes(next));
     };
     let (places, ballots) = (places.zip(next..), ballots.iter().zip(1..));
     if all_spoken {
@@ -104,15 +106,13 @@ fn write_row(row: &Row, next: u16, places: &mut [u8]) {
     }
 }
 
-/// The normal form of a sheet: written from its first 12 bytes and the table that it is read to. The causes are the
+/// The normal form of a sheet: written from its first 12 bytes and the tables that it is read to. The causes are the
 /// reader's, and 14 cannot arise.
 pub fn normal_form(bytes: &[u8]) -> Result<Vec<u8>, Cause> {
-    let line = sheet::header(bytes)?.judge()?;
-    let mut table = vec![0; line.table_len()];
-    sheet::read(bytes, &mut table)?;
+    let (_, tables) = sheet::tables(bytes)?;
     let header = &bytes[..HEADER_LEN];
-    let mut written = vec![0; sheet_len(header, &table)?];
-    write(header, &table, &mut written)?;
+    let mut written = vec![0; sheet_len(header, &tables)?];
+    write(header, &tables, &mut written)?;
     Ok(written)
 }
 

@@ -9,7 +9,7 @@ use peer::sheet::{write, Record};
 use peer::writer::rewritten;
 
 fn record(round: u8, from: u8, to: u8, ballot: u8) -> Record {
-    Record { round, from, to, ballot }
+    Record { bit: 0, round, from, to, ballot }
 }
 
 fn thresholds(n: u8, t: u8, upper: u8) -> u8 {

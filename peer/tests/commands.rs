@@ -86,8 +86,38 @@ fn stored_runs() {
     let printed = String::from_utf8(printed).unwrap();
     let lines: Vec<&str> = printed.lines().collect();
     assert_eq!(lines.len(), 2);
-    assert!(lines[0].starts_with("run 1: 4 1 1 1 1 8; table 2653487104; accepted: 1 2 0 0 1 2 0 0 "));
+    assert!(lines[0].starts_with("run 1: 4 1 1 1 1 0 8; table 2653487104; accepted: 1 2 0 0 1 2 0 0 "));
     assert!(lines[1].starts_with("run 2: refused 8; table ") && !lines[1].contains("accepted"));
+}
+
+/// Case A with a number of two bits: its tables, then one bit's; and a number whose tables are longer than one bit's can be.
+#[test]
+fn stored_runs_of_numbers() {
+    let mut number = CASE_A;
+    (number[4], number[5]) = (2, 2);
+    let large = [32, 10, 10, 1, 1, 2, 0, 0, 0, 0, 0, 0];
+    let small = [32, 0, 0, 1, 9, 8, 0, 0, 0, 0, 0, 0];
+    let mut stored = Vec::new();
+    for (sheet, lent) in [(number, 288u16), (number, 144), (large, 36_864), (small, 49_152)] {
+        stored.extend([12, 0]);
+        stored.extend(lent.to_le_bytes());
+        stored.extend(sheet);
+    }
+    let (status, printed, said) = peer(&["runs"], &stored);
+    assert_eq!((status, said.as_str()), (0, ""));
+    let printed = String::from_utf8(printed).unwrap();
+    let begins = [
+        "run 1: 4 1 1 1 2 2 8; table ",
+        "run 2: refused 8; table ",
+        "run 3: refused 8; table ",
+        "run 4: 32 0 0 1 9 8 0; table ",
+    ];
+    assert_eq!(printed.lines().count(), 4);
+    assert!(printed.lines().zip(begins).all(|(line, begins)| line.starts_with(begins)), "{printed}");
+    let accepted = printed.lines().map(|line| line.split("accepted: ").nth(1).unwrap_or("")[..].to_string());
+    let accepted: Vec<String> = accepted.collect();
+    assert!(accepted[0].starts_with("2 2 0 0 2 2 0 0 2 2 0 0 255 255 255 255; sums "));
+    assert!(accepted[3].starts_with("9 2 0 0 9 2 0 0 "));
 }
 
 #[test]
@@ -106,6 +136,40 @@ fn log_and_outcomes() {
     assert_eq!(log[..32], [[1; 4], [255; 4], [255; 4], [255; 4], [1; 4], [1; 4], [1; 4], [255; 4]].concat());
     let outcomes = [[1, 2, 0, 0], [1, 2, 0, 0], [1, 2, 0, 0], [255; 4]].concat();
     assert_eq!(peer(&["outcomes", "-"], &CASE_A), (0, outcomes, String::new()));
+}
+
+/// Case A with the number 2 of two bits: the bits' logs one after another, and the outcomes of the number. The checker keeps to
+/// one bit, and says so of two; of one it gives the marks.
+#[test]
+fn a_number() {
+    let mut sheet = CASE_A;
+    (sheet[4], sheet[5]) = (2, 2);
+    let listed = CASE_A_LISTING.replace(" 1 2 0 0", " 2 2 0 0").into_bytes();
+    assert_eq!(peer(&["listing"], &sheet), (0, listed, String::new()));
+    assert_eq!(peer(&["rewrite"], &sheet), (0, sheet.to_vec(), String::new()));
+    let (_, log, _) = peer(&["log"], &sheet);
+    let (_, outcomes, _) = peer(&["outcomes"], &sheet);
+    assert_eq!(outcomes, [[2, 2, 0, 0], [2, 2, 0, 0], [2, 2, 0, 0], [255; 4]].concat());
+    let [zero, one] = [0, 1].map(|value| {
+        let mut sheet = CASE_A;
+        sheet[4] = value;
+        ["log", "outcomes"].map(|command| peer(&[command], &sheet).1)
+    });
+    assert_eq!(log, [&zero[0][..], &one[0]].concat());
+    let audit = |log: &[u8], outcomes: &[u8]| {
+        let files = [file("number-log", log), file("number-outcomes", outcomes)];
+        peer(&["audit", "4", "1", "1", "1", &files[0], &files[1]], &[])
+    };
+    assert_eq!(audit(&log[144..], &one[1]), (0, b"broke 4\n".to_vec(), String::new()));
+    let words = Cause::Length.words();
+    let several = "; the log is as long as 2 bits' logs, and one bit is checked at a time";
+    for (log, why) in [(&log[..], several), (&log[..287], "")] {
+        let said = format!("audit: refused 8: {words}{why}\n");
+        assert_eq!(audit(log, &outcomes), (1, b"refused 8\n".to_vec(), said));
+    }
+    sheet[5] = 9;
+    let said = "rewrite: standard input: refused 15: w is above 8\n".to_string();
+    assert_eq!(peer(&["rewrite"], &sheet), (1, b"refused 15\n".to_vec(), said));
 }
 
 /// Case A's log and outcomes, changed, refused, and words that are wrong.
@@ -221,7 +285,7 @@ fn commands_that_are_not_built() {
 #[cfg(feature = "verified")]
 const FUZZED: &str = "1000";
 
-/// Seed 7 and so many turns of a command that compares fourteen calls: all pass, without a difference.
+/// Seed 7 and so many turns of a command that compares fifteen calls: all pass, without a difference.
 #[cfg(feature = "verified")]
 fn finds_no_difference(command: &str, turns: &str) {
     let (status, printed, said) = peer(&[command, "7", turns], &[]);
@@ -230,7 +294,7 @@ fn finds_no_difference(command: &str, turns: &str) {
     let printed = String::from_utf8(printed).unwrap();
     assert!(
         printed.starts_with(&format!("seed 7, {turns} turns; "))
-            && printed.ends_with("\n14 passed, 0 failed\n")
+            && printed.ends_with("\n15 passed, 0 failed\n")
     );
 }
 
@@ -271,7 +335,7 @@ fn fuzzing_a_wrong_program() {
     for (words, name) in programs(wrong) {
         let (status, printed, said) = peer(&[&["fuzz", "7", FUZZED], &words[..]].concat(), &[]);
         let printed = String::from_utf8(printed).unwrap();
-        assert!(status == 1 && printed.ends_with(" inputs with a difference\n13 passed, 1 failed\n"));
+        assert!(status == 1 && printed.ends_with(" inputs with a difference\n14 passed, 1 failed\n"));
         let exit = format!("{name}: exit status: 2, on standard error ");
         for words in [&exit, " bytes\n", "to repeat: peer fuzz 7 "] {
             assert!(said.contains(words));

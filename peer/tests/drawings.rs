@@ -4,6 +4,8 @@
 #[path = "drawings/claims.rs"]
 mod claims;
 mod common;
+#[path = "drawings/numbers.rs"]
+mod numbers;
 #[path = "drawings/shown.rs"]
 mod shown;
 
@@ -15,7 +17,6 @@ use peer::draw::draw;
 use peer::line::{Header, Part};
 use peer::listing::{run, Run};
 use peer::outcome::outcomes;
-use peer::rehearsal::rehearse;
 use peer::sheet::{write, Record};
 use shown::{apart, elements, shown, Area, Cells, Shown, Text};
 
@@ -59,13 +60,10 @@ fn header_by_lot(lot: &mut Lot, n: u8) -> Header {
     }
 }
 
-/// The run with this header of a table drawn by lot.
+/// The run with this header of tables drawn by lot.
 fn run_by_lot(lot: &mut Lot, header: Header) -> Run {
-    let line = header.judge().unwrap();
-    let table = lot.table(&line);
-    let (mut log, mut outcomes) = (vec![0; line.table_len()], vec![0; line.outcomes_len()]);
-    rehearse(&header, &table, &mut log, &mut outcomes).unwrap();
-    Run { header, line, log, outcomes }
+    let tables = lot.tables(&header);
+    Run::new(header, &tables).unwrap()
 }
 
 #[test]
@@ -88,7 +86,7 @@ fn texts_of_the_largest_runs() {
         let bad: Vec<u8> = (1..=32).filter(|i| marks >> (i - 1) & 1 == 1).take(1).collect();
         let told: Vec<Record> = bad
             .iter()
-            .flat_map(|&from| (1..=32).map(move |to| Record { round: 4, from, to, ballot: 100 + to }))
+            .flat_map(|&from| (1..=32).map(move |to| Record { bit: 0, round: 4, from, to, ballot: 100 + to }))
             .collect();
         let svg = draw(&run(&write(&header(32, 10, 10, 32, 1, marks), &told)).unwrap());
         well_formed(&svg);
@@ -122,18 +120,22 @@ fn cells_show_the_log() {
         let svg = draw(&run);
         let shown = shown(&svg);
         assert_eq!(shown.cells.len(), usize::from(run.line.rounds()));
-        for (round, cells) in (1..).zip(&shown.cells) {
-            for from in run.line.stations() {
-                for to in run.line.stations() {
-                    let byte = run.log[run.line.place(round, from, to)];
-                    let (colour, symbol) = look(run.line.part(round), byte);
-                    let (shown_colour, shown_symbol) = cells.at(from, to);
-                    assert_eq!(shown_colour, colour, "round {round} from {from} to {to}: {byte}");
-                    let number = cells.side >= 20.0 && symbol == "\u{d7}";
-                    let symbol = if number { byte.to_string() } else { symbol };
-                    assert_eq!(shown_symbol, symbol, "round {round} from {from} to {to}: {byte}");
-                }
-            }
+        check_cells(&run, &run.log, &shown.cells);
+    }
+}
+
+/// The cells of a bit's rounds are its log's ballots.
+fn check_cells(run: &Run, log: &[u8], all: &[Cells]) {
+    for (round, cells) in (1..).zip(all) {
+        let pairs = run.line.stations().flat_map(|from| run.line.stations().map(move |to| (from, to)));
+        for (from, to) in pairs {
+            let byte = log[run.line.place(round, from, to)];
+            let (colour, symbol) = look(run.line.part(round), byte);
+            let (shown_colour, shown_symbol) = cells.at(from, to);
+            assert_eq!(shown_colour, colour, "round {round} from {from} to {to}: {byte}");
+            let number = cells.side >= 20.0 && symbol == "\u{d7}";
+            let symbol = if number { byte.to_string() } else { symbol };
+            assert_eq!(shown_symbol, symbol, "round {round} from {from} to {to}: {byte}");
         }
     }
 }
@@ -195,6 +197,25 @@ fn meanings_stand_above_the_rounds() {
     }
 }
 
+/// The table above the rounds: its texts by station, below each station's number, in these rows.
+fn table<'a>(run: &Run, shown: &Shown<'a>, labels: &[&str]) -> Vec<Vec<Option<&'a str>>> {
+    let beside = |label: &str| {
+        shown.texts.iter().find(|text| text.words == label && text.area.0 < 30.0).expect("a label")
+    };
+    let row = |label: &Text| -> Vec<&Text<'a>> {
+        let beside = |text: &&Text| (text.baseline - label.baseline).abs() < 6.0 && text.area.0 > 150.0;
+        shown.texts.iter().filter(beside).collect()
+    };
+    let numbers = row(beside("station"));
+    assert_eq!(numbers.len(), run.line.n());
+    assert!(run.line.stations().zip(&numbers).all(|(station, number)| number.words == station.to_string()));
+    let below = |number: &Text, label: &str| {
+        let words = |text: &&Text| (text.middle() - number.middle()).abs() < 10.0;
+        row(beside(label)).into_iter().find(words).map(|text| text.words)
+    };
+    numbers.iter().map(|number| labels.iter().map(|label| below(number, label)).collect()).collect()
+}
+
 /// The table above the rounds has every station's outcome, and says who is bad.
 #[test]
 fn the_table_shows_the_outcomes() {
@@ -203,29 +224,14 @@ fn the_table_shows_the_outcomes() {
         let by_lot = header_by_lot(&mut lot, n);
         let run = run_by_lot(&mut lot, by_lot);
         let svg = draw(&run);
-        let shown = shown(&svg);
-        let beside = |label: &str| {
-            shown.texts.iter().find(|text| text.words == label && text.area.0 < 30.0).expect("a label")
-        };
-        let stations = beside("station");
-        let labels = ["value decided", "grade (how sure)", "flag", "rounds garbled"].map(beside);
-        let row = |label: &Text| -> Vec<&Text> {
-            let beside = |text: &&Text| (text.baseline - label.baseline).abs() < 6.0 && text.area.0 > 150.0;
-            shown.texts.iter().filter(beside).collect()
-        };
-        let numbers = row(stations);
-        assert_eq!(numbers.len(), run.line.n());
-        for ((station, number), outcome) in run.line.stations().zip(numbers).zip(outcomes(&run.outcomes)) {
-            assert_eq!(number.words, station.to_string());
-            let below = |label| {
-                let words = |text: &&Text| (text.middle() - number.middle()).abs() < 10.0;
-                row(label).into_iter().find(words).map(|text| text.words)
-            };
+        let labels = ["value decided", "grade (how sure)", "flag", "rounds garbled"];
+        let shown = table(&run, &shown(&svg), &labels);
+        for ((station, shown), outcome) in run.line.stations().zip(shown).zip(outcomes(&run.outcomes)) {
             if run.header.marks.bad(station) {
-                assert_eq!(labels.map(below), [None, Some("bad"), None, None]);
+                assert_eq!(shown, [None, Some("bad"), None, None]);
             } else {
                 let bytes = outcome.to_bytes().map(|byte| byte.to_string());
-                assert_eq!(labels.map(below), bytes.each_ref().map(|byte| Some(byte.as_str())));
+                assert_eq!(shown, bytes.each_ref().map(|byte| Some(byte.as_str())));
             }
         }
     }

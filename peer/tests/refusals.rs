@@ -35,6 +35,28 @@ fn mark_beyond(n: u8, marks: u32) -> bool {
     (u32::from(n)..32).any(|bit| marks >> bit & 1 == 1)
 }
 
+/// w and a number, both often near the edge of what is allowed. A long line has few bits, since its tables take long.
+fn edge_number(lot: &mut Lot, n: u8) -> (u8, u8) {
+    let widest = if n > 8 { 2 } else { 8 };
+    let w = lot.pick(&[0, 0, 1, 2, widest - 1, widest, widest, 9, 255]);
+    let above = 1u32.wrapping_shl(w.max(1).into()) as u8;
+    (w, lot.pick(&[0, 1, 2, above.wrapping_sub(1), above.wrapping_sub(1), above, 255]))
+}
+
+/// Whether a number is 2 to the power w or above.
+fn no_number(w: u8, value: u8) -> bool {
+    f64::from(value) >= 2f64.powi(w.max(1).into())
+}
+
+/// How many bits w stands for, any number where it is refused.
+fn bits(w: u8) -> usize {
+    match w {
+        0 => 1,
+        1..=8 => w.into(),
+        _ => 1,
+    }
+}
+
 /// The exact lengths of table and outcomes; any numbers where the line is refused.
 fn lengths(n: u8, t: u8, rounds: usize) -> (usize, usize) {
     if no_stations(n) || t > 32 {
@@ -46,31 +68,33 @@ fn lengths(n: u8, t: u8, rounds: usize) -> (usize, usize) {
 #[test]
 fn rehearsals() {
     let mut lot = Lot(1);
-    let mut seen = [0; 14];
-    for _ in 0..30_000 {
+    let mut seen = [0; 16];
+    for _ in 0..15_000 {
         let (n, t, upper) = lot.edge_numbers();
         let sender = lot.pick(&[1, 1, n, n, 0, n.wrapping_add(1)]);
-        let value = lot.pick(&[0, 1, 0, 1, 2, 255]);
+        let (w, value) = edge_number(&mut lot, n);
         let marks = lot.edge_marks(n);
-        let (exact, ends) = lengths(n, t, 3 * usize::from(t) + 6);
+        let (exact, ends) = lengths(n, t, bits(w) * (3 * usize::from(t) + 6));
         let table = vec![1; lot.near(exact)];
         let mut log = vec![99; lot.near(exact)];
         let mut outcomes = vec![99; lot.near(ends)];
-        let expected = lowest(&[
+        let lowest = lowest(&[
             (2, no_stations(n)),
             (3, no_thresholds(n, t, upper)),
             (4, sender == 0 || sender > n),
-            (5, value > 1),
+            (5, no_number(w, value)),
             (6, mark_beyond(n, marks)),
             (8, table.len() != exact || log.len() != exact || outcomes.len() != ends),
         ]);
-        let header = Header { n, t, upper, sender, value, marks: Marks(marks) };
+        // "first in a call without a sheet"
+        let expected = if w > 8 { 15 } else { lowest };
+        let header = Header { n, t, upper, sender, value, w, marks: Marks(marks) };
         assert_eq!(code(rehearse(&header, &table, &mut log, &mut outcomes)), expected, "{header:?}");
         let untouched = log.iter().chain(&outcomes).all(|&byte| byte == 99);
         assert!(untouched == (expected != 0), "{header:?}");
         seen[usize::from(expected)] += 1;
     }
-    assert!([0, 2, 3, 4, 5, 6, 8].iter().all(|&cause: &usize| seen[cause] > 20), "{seen:?}");
+    assert!([0, 2, 3, 4, 5, 6, 8, 15].iter().all(|&cause: &usize| seen[cause] > 20), "{seen:?}");
 }
 
 /// What a table makes: a record for each byte of a marked sender that is not silence. The line has n stations.
@@ -85,26 +109,26 @@ fn records(n: u8, marks: u32, table: &[u8]) -> usize {
 #[test]
 fn writing() {
     let mut lot = Lot(5);
-    let mut seen = [0; 16];
+    let mut seen = [0; 17];
     for _ in 0..20_000 {
         let (n, t, upper) = lot.edge_numbers();
         let sender = lot.pick(&[1, 1, n, n, 0, n.wrapping_add(1)]);
-        let value = lot.pick(&[0, 1, 0, 1, 2, 255]);
+        let (w, value) = edge_number(&mut lot, n);
         let marks = lot.edge_marks(n);
-        let mut header = sheet::write(&Header { n, t, upper, sender, value, marks: Marks(marks) }, &[]);
-        header[5] = lot.pick(&[0, 0, 0, 0, 0, 0, 0, 1, 255]);
+        let mut header = sheet::write(&Header { n, t, upper, sender, value, w, marks: Marks(marks) }, &[]);
         header[6..8].copy_from_slice(&lot.word().to_le_bytes()[..2]);
         header.resize(lot.near(12), 0);
-        let (exact, _) = lengths(n, t, 3 * usize::from(t) + 6);
+        let (exact, _) = lengths(n, t, bits(w) * (3 * usize::from(t) + 6));
         let table = vec![lot.pick(&[0, 1, 254, 255]); lot.near(exact)];
         let k = if no_stations(n) { 0 } else { records(n, marks, &table) };
         let mut sheet = vec![99; lot.near(12 + 8 * k)];
         let before_buffer = [
-            (1, header.len() != 12 || header[5] != 0),
+            (1, header.len() != 12),
+            (15, w > 8),
             (2, no_stations(n)),
             (3, no_thresholds(n, t, upper)),
             (4, sender == 0 || sender > n),
-            (5, value > 1),
+            (5, no_number(w, value)),
             (6, mark_beyond(n, marks)),
             (8, table.len() != exact),
             (14, k > 4_096),
@@ -117,9 +141,9 @@ fn writing() {
         assert_eq!(code(writer::write(&header, &table, &mut sheet)), expected, "{header:?}");
         assert!(sheet.iter().all(|&byte| byte == 99) == (expected != 0), "{header:?}");
         // 8 for the sheet is counted apart
-        seen[if needed == expected { usize::from(expected) } else { 15 }] += 1;
+        seen[if needed == expected { usize::from(expected) } else { 16 }] += 1;
     }
-    assert!([0, 1, 2, 3, 4, 5, 6, 8, 14, 15].iter().all(|&cause: &usize| seen[cause] > 20), "{seen:?}");
+    assert!([0, 1, 2, 3, 4, 5, 6, 8, 14, 15, 16].iter().all(|&cause: &usize| seen[cause] > 20), "{seen:?}");
 }
 
 #[test]

@@ -7,7 +7,7 @@ use peer::line::{Cause, Header};
 use peer::sheet::{read, records, write, Record};
 
 fn record(round: u8, from: u8, to: u8, ballot: u8) -> Record {
-    Record { round, from, to, ballot }
+    Record { bit: 0, round, from, to, ballot }
 }
 
 /// The sheet of case A with three records.
@@ -58,7 +58,10 @@ fn causes_of_the_header() {
         assert_eq!(code(&sheet), 1, "length {length}");
     }
     assert_eq!(edited(&[]), 0);
-    assert_eq!(edited(&[(5, 1), (0, 0)]), 1);
+    // byte 5 is w: 1 is what 0 stands for, and 9 is refused before all but the length
+    assert_eq!((edited(&[(5, 1)]), edited(&[(5, 1), (0, 0)])), (0, 2));
+    assert_eq!((edited(&[(5, 9)]), edited(&[(5, 255), (0, 0), (6, 9)])), (15, 15));
+    assert_eq!((edited(&[(5, 2)]), edited(&[(5, 2), (4, 4)])), (8, 5));
     assert_eq!((edited(&[(0, 0), (1, 9)]), edited(&[(0, 33)])), (2, 2));
     assert_eq!((edited(&[(1, 2)]), edited(&[(0, 3), (3, 0)])), (3, 3));
     assert_eq!((edited(&[(3, 0), (4, 2)]), edited(&[(3, 5)])), (4, 4));
@@ -131,13 +134,15 @@ fn judged(sheet: &[u8], header: &Header) -> u8 {
     for (at, &index) in chain.iter().enumerate() {
         let bytes = field(index);
         let stations = bytes[1..3].iter().all(|&station| line.stations().any(|i| i == station));
-        if bytes[0] == 0 || bytes[0] > line.rounds() || !stations || bytes[6] != 0 || bytes[7] != 0 {
+        let no_bit = bytes[6] >= header.w.max(1);
+        if bytes[0] == 0 || bytes[0] > line.rounds() || !stations || no_bit || bytes[7] != 0 {
             return 11;
         }
         if header.marks.0 & 1 << (bytes[1] - 1) == 0 {
             return 12;
         }
-        if chain[..at].iter().any(|&earlier| field(earlier)[..3] == bytes[..3]) {
+        let same = |other: &[u8]| other[..3] == bytes[..3] && other[6] == bytes[6];
+        if chain[..at].iter().any(|&earlier| same(field(earlier))) {
             return 13;
         }
     }
@@ -148,15 +153,16 @@ fn judged(sheet: &[u8], header: &Header) -> u8 {
 fn sheets_by_lot() {
     let mut lot = Lot(20);
     let mut seen = [0; 14];
-    for _ in 0..60_000 {
-        let header = lot.header(4);
+    for turn in 0..60_000 {
+        let one_bit = lot.header(4);
+        let header = if turn % 2 == 0 { one_bit } else { lot.numbered(&one_bit) };
         let mut sheet = write(&header, &lot.records(&header));
         for _ in 0..lot.below(3) * u64::from(sheet.len() > 12) {
             let at = 12 + lot.below(sheet.len() as u64 - 12) as usize;
             sheet[at] = lot.below(9) as u8;
         }
         let line = header.judge().unwrap();
-        let mut table = vec![99; line.table_len()];
+        let mut table = vec![99; line.tables_len(header.width().unwrap())];
         let answer = read(&sheet, &mut table);
         let expected = judged(&sheet, &header);
         assert_eq!(answer.map_or_else(Cause::number, |_| 0), expected);
@@ -173,7 +179,8 @@ fn sheets_by_lot() {
 fn written_and_read_back() {
     let mut lot = Lot(21);
     for _ in 0..2_000 {
-        let header = lot.header(32);
+        let one_bit = lot.header(32);
+        let header = lot.numbered(&one_bit);
         let told = lot.records(&header);
         assert_eq!(records(&write(&header, &told)), Ok((header, told)));
     }

@@ -86,8 +86,8 @@ fn exchange(args: &Value) -> Value {
 
 fn rehearsal(args: &Value) -> Value {
     let (n, t, upper) = line(args);
-    let (sender, value, marks) = (args.number("sender"), args.number("value"), Marks(args.number("marks")));
-    let header = Header { n, t, upper, sender, value, marks };
+    let [sender, value, w] = ["sender", "value", "w"].map(|name| args.number(name));
+    let header = Header { n, t, upper, sender, value, w, marks: Marks(args.number("marks")) };
     let (mut log, mut outcomes) = (lent(args, "log_len"), lent(args, "outcomes_len"));
     match rehearse(&header, &args.at("table").bytes(), &mut log, &mut outcomes) {
         Ok(()) => Value::object([("log", Value::hex(&log)), ("outcomes", Value::hex(&outcomes))]),

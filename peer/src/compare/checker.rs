@@ -28,7 +28,7 @@ fn drawn(lot: &mut Lot) -> Logged {
 /// Other numbers, mostly ones that are refused.
 fn spoil(lot: &mut Lot, logged: &mut Logged) {
     let (n, t, upper) = logged.numbers;
-    let mut header = Header { n, t, upper, sender: logged.sender, value: 0, marks: Marks(0) };
+    let mut header = Header { n, t, upper, sender: logged.sender, value: 0, w: 0, marks: Marks(0) };
     lines::spoil(lot, &mut header);
     while lot.one_in(2) {
         lines::spoil(lot, &mut header);

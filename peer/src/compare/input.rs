@@ -37,8 +37,9 @@ impl Told {
     }
 
     pub fn header(self, header: &Header) -> Told {
-        let Header { n, t, upper, sender, value, marks } = *header;
-        self.line((n, t, upper)).number("sender", sender).number("value", value).marks(marks)
+        let Header { n, t, upper, sender, value, w, marks } = *header;
+        let told = self.line((n, t, upper)).number("sender", sender);
+        told.number("value", value).number("w", w).marks(marks)
     }
 
     pub fn station(self, station: &Station) -> Told {

@@ -10,7 +10,7 @@ use crate::lot::Lot;
 use crate::rehearsal;
 
 /// The numbers that the rehearsal can answer.
-pub const REHEARSE: [u8; 7] = [0, 2, 3, 4, 5, 6, 8];
+pub const REHEARSE: [u8; 8] = [0, 2, 3, 4, 5, 6, 8, 15];
 /// The numbers that the exchange had alone can answer.
 pub const EXCHANGE: [u8; 6] = [0, 2, 3, 5, 6, 8];
 
@@ -18,7 +18,7 @@ fn number(answer: Result<(), Cause>) -> u8 {
     answer.map_or_else(Cause::number, |()| 0)
 }
 
-/// A header of any line that is accepted, or one that is spoilt.
+/// A header of one bit of any line that is accepted, or one that is spoilt.
 pub fn header(lot: &mut Lot) -> Header {
     header_of(lot, 32)
 }
@@ -33,6 +33,31 @@ pub fn header_of(lot: &mut Lot, most: u8) -> Header {
         }
     }
     header
+}
+
+/// A header of a number whose tables are mostly short, of a line of at most so many stations, accepted or spoilt.
+pub fn numbered(lot: &mut Lot, most: u8) -> Header {
+    let mut header = header_of(lot, most);
+    if lot.one_in(2) {
+        header = lot.numbered_short(&header);
+    }
+    if lot.one_in(12) {
+        spoil_number(lot, &mut header);
+    }
+    header
+}
+
+/// Changes w or the number, mostly to one that is refused or nearly so.
+pub fn spoil_number(lot: &mut Lot, header: &mut Header) {
+    let byte = lot.byte();
+    match lot.below(3) {
+        0 => header.w = lot.pick(&[9, 10, 128, 255, byte]),
+        1 => header.w = lot.pick(&[0, 1, header.w.wrapping_sub(1), header.w.wrapping_add(1)]),
+        _ => {
+            let above = 1u8.checked_shl(header.w.max(1).into()).unwrap_or(0);
+            header.value = lot.pick(&[above, above.wrapping_sub(1), above.wrapping_add(1), 255, byte]);
+        }
+    }
 }
 
 /// Changes one of a header's numbers, mostly to one that is refused.
@@ -67,10 +92,25 @@ pub fn line_of((n, t, upper): (u8, u8, u8)) -> Line {
     Line::new(n, t, upper).unwrap_or_else(|_| Line::new(4, 1, 1).expect("a line"))
 }
 
-pub fn rehearse(lot: &mut Lot) -> Compared {
-    let header = header(lot);
+/// The line of a header's numbers, and the bytes of its tables; of one bit where w is refused.
+pub fn line_and_tables(header: &Header) -> (Line, usize) {
     let line = line_of((header.n, header.t, header.upper));
-    let [table, log] = [len(lot, line.table_len()), len(lot, line.table_len())];
+    (line, header.width().map_or(line.table_len(), |width| line.tables_len(width)))
+}
+
+/// The length of a number's tables or logs, now and then another: seldom one bit's.
+pub fn tables_len(lot: &mut Lot, line: &Line, exact: usize) -> usize {
+    if lot.one_in(60) {
+        line.table_len()
+    } else {
+        len(lot, exact)
+    }
+}
+
+pub fn rehearse(lot: &mut Lot) -> Compared {
+    let header = numbered(lot, 32);
+    let (line, exact) = line_and_tables(&header);
+    let [table, log] = [tables_len(lot, &line, exact), tables_len(lot, &line, exact)];
     let outcomes = len(lot, line.outcomes_len());
     let table = lot.ballots(&line, table);
     let mut log = Lending::new(lot, "the log", log);

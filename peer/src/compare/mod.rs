@@ -35,8 +35,9 @@ const fn call(
     Call { name, inputs, numbers, compare }
 }
 
-const CALLS: [Call; 14] = [
+const CALLS: [Call; 15] = [
     call("read", 4, &reader::NUMBERS, reader::read),
+    call("read_bit", 1, &reader::NUMBERS, reader::read_bit),
     call("sheet_len", 1, &writer::NUMBERS, writer::sheet_len),
     call("write", 1, &writer::NUMBERS, writer::write),
     call("read back", 1, &[0], writer::read_back),
@@ -110,7 +111,7 @@ mod tests {
     fn a_planted_write_to_what_is_only_to_be_read() {
         for call in &CALLS {
             let expected: &[&str] = match call.name {
-                "read" => &["the sheet"],
+                "read" | "read_bit" => &["the sheet"],
                 "sheet_len" | "write" => &["the table", "the header"],
                 "read back" => &["the table", "the header", "the sheet"],
                 "rehearse" => &["the table"],

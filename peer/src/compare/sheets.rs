@@ -1,6 +1,6 @@
 //! Run sheets drawn by lot: accepted ones, damaged ones, loose ones and mere bytes.
 
-use super::lines::spoil;
+use super::lines::{spoil, spoil_number};
 use crate::line::Header;
 use crate::lot::Lot;
 use crate::sheet::{self, Record, HEADER_LEN, LONGEST, RECORDS, RECORD_LEN};
@@ -23,9 +23,19 @@ fn mere_bytes(lot: &mut Lot) -> Vec<u8> {
     (0..len).map(|_| lot.below(most) as u8).collect()
 }
 
-/// A sheet that is accepted with its table, the chain in any order, any bytes in the records outside of it.
-fn accepted(lot: &mut Lot) -> Vec<u8> {
+/// A header that is accepted, of one bit or of a number.
+fn header(lot: &mut Lot) -> Header {
     let header = lot.header(32);
+    if lot.one_in(2) {
+        lot.numbered_short(&header)
+    } else {
+        header
+    }
+}
+
+/// A sheet that is accepted with its tables, the chain in any order, any bytes in the records outside of it.
+fn accepted(lot: &mut Lot) -> Vec<u8> {
+    let header = header(lot);
     let records = if lot.one_in(60) { many(lot, &header) } else { lot.records(&header) };
     let spare = RECORDS - records.len();
     let outside = match lot.below(40) {
@@ -39,10 +49,12 @@ fn accepted(lot: &mut Lot) -> Vec<u8> {
 /// Many records that the reader accepts, up to as many as a sheet can have.
 fn many(lot: &mut Lot, header: &Header) -> Vec<Record> {
     let line = header.judge().expect("an accepted header");
+    let bits = header.width().expect("an accepted header").bits();
+    let rounds = bits.flat_map(|bit| (1..=line.rounds()).map(move |round| (bit, round)));
     let mut records = Vec::new();
-    for round in 1..=line.rounds() {
-        for from in line.stations().filter(|&from| header.marks.bad(from)) {
-            records.extend(line.stations().map(|to| Record { round, from, to, ballot: lot.ballot() }));
+    for (bit, round) in rounds {
+        for from in header.marks.stations() {
+            records.extend(line.stations().map(|to| Record { bit, round, from, to, ballot: lot.ballot() }));
         }
     }
     lot.shuffle(&mut records);
@@ -76,7 +88,7 @@ fn at(sheet: &mut [u8], index: usize) -> &mut [u8] {
 
 /// Records with numbers and next indices that are in range or near it.
 fn loose(lot: &mut Lot) -> Vec<u8> {
-    let mut header = lot.header(32);
+    let mut header = header(lot);
     if lot.one_in(2) {
         header.marks.0 = ((1u64 << header.n) - 1) as u32;
     }
@@ -88,10 +100,12 @@ fn loose(lot: &mut Lot) -> Vec<u8> {
         let off = lot.one_in(2 * k);
         let mut number = |most: u8| lot.below(u64::from(most)) as u8 + u8::from(!off);
         let (round, from, to) = (number(3 * header.t + 6), number(header.n), number(header.n));
+        let one_more = lot.one_in(4 * k);
+        let bit = lot.below(u64::from(header.w.max(1)) + u64::from(one_more)) as u8;
         let after = (index + 1) % (k + 1);
         let next = if lot.one_in(4) { lot.below(k + ends) } else { after };
         let [low, high] = (next as u16).to_le_bytes();
-        sheet.extend([round, from, to, lot.ballot(), low, high, 0, u8::from(lot.one_in(4 * k))]);
+        sheet.extend([round, from, to, lot.ballot(), low, high, bit, u8::from(lot.one_in(4 * k))]);
     }
     sheet
 }
@@ -110,7 +124,7 @@ fn damage(lot: &mut Lot, sheet: &mut Vec<u8>) {
     let k = sheet.len().saturating_sub(HEADER_LEN) / RECORD_LEN;
     match lot.below(10) {
         0 => other_length(lot, sheet),
-        1 if sheet.len() > 5 => sheet[5] = lot.pick(&[0, 1, 128, 255]),
+        1 if sheet.len() > 5 => sheet[5] = lot.pick(&[0, 1, sheet[5].wrapping_sub(1), 9, 10, 255]),
         2..=4 => other_header(lot, sheet),
         _ if k > 0 => other_record(lot, sheet, k),
         _ if sheet.len() >= 8 => sheet[6] = lot.pick(&[0, 1, 255]),
@@ -128,7 +142,11 @@ fn other_length(lot: &mut Lot, sheet: &mut Vec<u8>) {
 
 fn other_header(lot: &mut Lot, sheet: &mut [u8]) {
     let Ok(mut header) = sheet::header(sheet) else { return };
-    spoil(lot, &mut header);
+    if lot.one_in(4) {
+        spoil_number(lot, &mut header);
+    } else {
+        spoil(lot, &mut header);
+    }
     let first = [sheet[6], sheet[7]];
     sheet[..HEADER_LEN].copy_from_slice(&sheet::write(&header, &[]));
     sheet[6..8].copy_from_slice(&first);
@@ -141,18 +159,20 @@ fn other_record(lot: &mut Lot, sheet: &mut [u8], k: usize) {
     let next = lot.pick(&[0, 1, index, other, k, k + 1, 65_535]) as u16;
     let (n, rounds) = (sheet[0], sheet[1].wrapping_mul(3).wrapping_add(6));
     let station = 1 + lot.below(u64::from(n.max(1))) as u8;
-    let place: [u8; 3] = at(sheet, other)[..3].try_into().expect("three bytes");
-    let byte = lot.byte();
+    let place: [u8; RECORD_LEN] = at(sheet, other).try_into().expect("a record's bytes");
+    let (byte, w) = (lot.byte(), sheet[5]);
     let record = at(sheet, index);
-    match lot.below(9) {
+    match lot.below(11) {
         0 => record[0] = lot.pick(&[0, rounds, rounds.wrapping_add(1), byte]),
         1 => record[1] = lot.pick(&[0, n.wrapping_add(1), byte]),
         2 => record[2] = lot.pick(&[0, n.wrapping_add(1), byte]),
         3 => record[1] = station,
         4 => record[4..6].copy_from_slice(&next.to_le_bytes()),
         5 => record[lot.pick(&[6, 7])] = byte,
-        6 => record[..3].copy_from_slice(&place),
+        6 => record[..3].copy_from_slice(&place[..3]),
         7 => record[lot.below(8) as usize] ^= 1 << lot.below(8),
+        8 => record[6] = lot.pick(&[0, 1, w.wrapping_sub(1), w, w.wrapping_add(1)]),
+        9 => (record[0], record[1], record[2], record[6]) = (place[0], place[1], place[2], place[6]),
         _ => sheet[6..8].copy_from_slice(&next.to_le_bytes()),
     }
 }

@@ -6,13 +6,13 @@ use super::lines;
 use super::report::Compared;
 use super::stations::{compared, difference, word};
 use crate::ffi;
-use crate::line::{Cause, Header, Line, Marks, SILENCE};
+use crate::line::{Cause, Header, Line, SILENCE};
 use crate::lot::Lot;
 use crate::sheet::{self, HEADER_LEN, LONGEST, RECORDS, RECORD_LEN};
 use crate::writer;
 
 /// The numbers that both calls of the writer can answer.
-pub const NUMBERS: [u8; 9] = [0, 1, 2, 3, 4, 5, 6, 8, 14];
+pub const NUMBERS: [u8; 10] = [0, 1, 2, 3, 4, 5, 6, 8, 14, 15];
 
 /// How many stations a line may have: mostly few, since a large table takes long.
 pub fn most(lot: &mut Lot) -> u8 {
@@ -32,7 +32,7 @@ fn header_bytes(lot: &mut Lot, header: &Header) -> Vec<u8> {
     bytes
 }
 
-/// Now and then other bytes than a header has: fewer, more, or byte 5 not zero.
+/// Now and then other bytes than a header has: fewer, more, or another w.
 fn spoil(lot: &mut Lot, header: &mut Vec<u8>) {
     let byte = lot.byte();
     if lot.one_in(16) {
@@ -40,11 +40,11 @@ fn spoil(lot: &mut Lot, header: &mut Vec<u8>) {
         header.resize(lot.pick(&[0, 5, 6, 8, 11, 13, 20, any]), lot.pick(&[0, 1, byte]));
     }
     if lot.one_in(30) {
-        header.get_mut(5).into_iter().for_each(|zero| *zero = byte);
+        header.get_mut(5).into_iter().for_each(|w| *w = lot.pick(&[0, 1, w.wrapping_add(1), 9, byte]));
     }
 }
 
-/// A table's bytes: mostly silence with some ballots of any station, or ballots all over.
+/// The tables' bytes: mostly silence with some ballots of any station, or ballots all over.
 fn table(lot: &mut Lot, line: &Line, len: usize) -> Vec<u8> {
     if lot.one_in(4) {
         return lot.ballots(line, len);
@@ -56,23 +56,28 @@ fn table(lot: &mut Lot, line: &Line, len: usize) -> Vec<u8> {
     table
 }
 
-/// A line whose bad stations have room for more ballots than a sheet has records.
-fn large(lot: &mut Lot) -> (Header, Line) {
-    let (n, t, upper) = lot.pick(&[(32, 10, 10), (32, 0, 15), (31, 5, 12), (29, 9, 9), (27, 2, 3)]);
+/// A number of a line whose bad stations have room for more ballots than a sheet has records, in one bit or in all together.
+fn large(lot: &mut Lot) -> Header {
+    let large =
+        [(32, 10, 10, 0), (32, 0, 15, 1), (31, 5, 12, 0), (27, 2, 3, 0), (16, 5, 5, 4), (13, 4, 4, 8)];
+    let (n, t, upper, w) = lot.pick(&large);
     let line = Line::new(n, t, upper).expect("a line");
-    let fewest = RECORDS / (line.n() * usize::from(line.rounds())) + 1;
+    let fewest = RECORDS / (line.n() * usize::from(line.rounds()) * usize::from(w.max(1))) + 1;
     let more = lot.below((line.n() - fewest) as u64 + 1) as usize;
     let marks = lot.marks(&line, (fewest + more) as u32);
     let (sender, value) = (1 + lot.below(line.n() as u64) as u8, lot.below(2) as u8);
-    (Header { n, t, upper, sender, value, marks }, line)
+    Header { n, t, upper, sender, value, w, marks }
 }
 
-/// A table with just as many records as a sheet can have, or some fewer or more, from any place on. The good stations
+/// Tables with just as many records as a sheet can have, or some fewer or more, from any place on. The good stations
 /// speak all the time.
-fn full_table(lot: &mut Lot, line: &Line, marks: Marks) -> Vec<u8> {
+fn full_tables(lot: &mut Lot, header: &Header) -> Vec<u8> {
     let ballot = lot.below(u64::from(SILENCE)) as u8;
-    let mut table = vec![ballot; line.table_len()];
-    let mut places: Vec<usize> = line.bad_places(marks).collect();
+    let (line, len) = lines::line_and_tables(header);
+    let mut table = vec![ballot; len];
+    let starts = (0..len).step_by(line.table_len());
+    let in_bit = |start| line.bad_places(header.marks).map(move |place| start + place);
+    let mut places: Vec<usize> = starts.flat_map(in_bit).collect();
     let start = lot.below(places.len() as u64) as usize;
     places.rotate_left(start);
     let spoken = lot.pick(&[RECORDS - 1, RECORDS, RECORDS, RECORDS + 1, RECORDS + 1, places.len()]);
@@ -80,29 +85,30 @@ fn full_table(lot: &mut Lot, line: &Line, marks: Marks) -> Vec<u8> {
     table
 }
 
-/// A header's bytes that are accepted and a table of its length, seldom a full one.
+/// A header's bytes that are accepted and tables of its length, seldom full ones.
 fn of_a_line(lot: &mut Lot) -> (Vec<u8>, Vec<u8>) {
     let (header, table) = if lot.one_in(120) {
-        let (header, line) = large(lot);
-        (header, full_table(lot, &line, header.marks))
+        let header = large(lot);
+        (header, full_tables(lot, &header))
     } else {
         let most = most(lot);
-        let header = lot.header(most);
-        let line = header.judge().expect("an accepted header");
-        (header, table(lot, &line, line.table_len()))
+        let one_bit = lot.header(most);
+        let header = if lot.one_in(2) { lot.numbered_short(&one_bit) } else { one_bit };
+        let (line, len) = lines::line_and_tables(&header);
+        (header, table(lot, &line, len))
     };
     (header_bytes(lot, &header), table)
 }
 
-/// A header's bytes and a table, of any kind; and the length of their sheet, if they weren't spoilt.
+/// A header's bytes and tables, of any kind; and the length of their sheet, if they weren't spoilt.
 fn drawn(lot: &mut Lot) -> (Vec<u8>, Vec<u8>, usize) {
     let (mut header, mut table) = if lot.one_in(2) {
         of_a_line(lot)
     } else {
         let most = most(lot);
-        let header = lines::header_of(lot, most);
-        let line = lines::line_of((header.n, header.t, header.upper));
-        (header_bytes(lot, &header), table(lot, &line, line.table_len()))
+        let header = lines::numbered(lot, most);
+        let (line, len) = lines::line_and_tables(&header);
+        (header_bytes(lot, &header), table(lot, &line, len))
     };
     let needed = writer::sheet_len(&header, &table).unwrap_or(LONGEST);
     spoil(lot, &mut header);
@@ -200,7 +206,7 @@ fn not_read_back(header: &[u8], table: &[u8], lent: [Lent; 3]) -> Option<String>
     (!same).then(|| format!("rewriting changes the sheet: first {records:#x}, then {rewritten:#x}"))
 }
 
-/// A table with silence at the good senders.
+/// The tables with silence at the good senders.
 fn silenced(header: &[u8], table: &[u8]) -> Vec<u8> {
     let Header { n, marks, .. } = sheet::header(header).expect("a header");
     let mut table = table.to_vec();

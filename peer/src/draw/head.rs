@@ -24,7 +24,7 @@ pub fn head(svg: &mut Svg, run: &Run) -> i32 {
     y = paragraph(svg, (MARGIN, y), BODY, &verdict.garbled());
     y = outcome::table(svg, run, y + 16);
     y = paragraph(svg, (MARGIN, y + 20), HEADING, "What the numbers and letters mean") + 2;
-    for group in meanings(&run.line) {
+    for group in meanings(&run.line, run.header.width().expect("an accepted run")) {
         for (term, meaning) in group {
             paragraph(svg, (MARGIN, y), SMALL.bold(), &term);
             y = paragraph(svg, (MARGIN + MEANING, y), SMALL, &meaning);
@@ -34,13 +34,17 @@ pub fn head(svg: &mut Svg, run: &Run) -> i32 {
     y + 12
 }
 
-/// The line's numbers.
+/// The line's numbers, and what the value is.
 fn numbers(run: &Run) -> String {
     let (n, t, upper, rounds) = (run.line.n(), run.line.t(), run.line.upper(), run.line.rounds());
     let stations = if n == 1 { "station" } else { "stations" };
-    format!(
-        "n = {n} {stations}, t = {t}, T = {upper}, {rounds} rounds. 0 keeps the old recipe, 1 changes over."
-    )
+    let value = match run.header.width().expect("an accepted run").count() {
+        1 => format!("{rounds} rounds. 0 keeps the old recipe, 1 changes over."),
+        bits => {
+            format!("w = {bits} bits, {rounds} rounds a bit. A recipe's number is 0 to {}.", (1 << bits) - 1)
+        }
+    };
+    format!("n = {n} {stations}, t = {t}, T = {upper}, {value}")
 }
 
 /// Text below y in as many lines as it needs, and where it ends.

@@ -1,8 +1,8 @@
 //! Where the parts of a drawing stand, by the number of stations and phases.
 //!
 //! The page is A4, upright. Above the rounds is the head, which begins with the outcome. Then come the
-//! blocks: round 1 with the legend beside it, each phase, the last exchange. The rounds of a block stand side
-//! by side where three grids fit the page's width, otherwise one below the other, with two blocks side by
+//! blocks of each bit: round 1, beside the first of which is the legend, each phase, the last exchange. The rounds of a
+//! block stand side by side where three grids fit the page's width, otherwise one below the other, with two blocks side by
 //! side. No block of rounds is cut by the end of a page.
 
 use super::svg::Font;
@@ -27,7 +27,7 @@ const BLOCK_HEAD: i32 = 28;
 /// Between columns; a grid's marks stand there.
 const BETWEEN: i32 = 24;
 /// Below a panel.
-const BELOW: i32 = 14;
+pub const BELOW: i32 = 14;
 /// The largest cell.
 const MOST_CELL: i32 = 21;
 /// The least height of round 1's band, which has the legend.
@@ -48,19 +48,24 @@ fn page(y: i32) -> i32 {
     y * 190 / (277 * WIDTH)
 }
 
+/// The layout of one bit's rounds.
 pub struct Layout {
     n: i32,
     /// The last block, which is the last exchange: block 0 is round 1, block p phase p.
     last: i32,
     /// The side of a cell.
     pub cell: i32,
+    /// The height of what stands above round 1.
+    title: i32,
+    /// The least height of round 1's band.
+    least: i32,
     /// Where each band of blocks begins, and where the last one ends.
     tops: Vec<i32>,
 }
 
 impl Layout {
-    /// The layout below a head that ends here.
-    pub fn new(line: &Line, head: i32) -> Layout {
+    /// The layout below what ends here: a title of this height, then the rounds, with the legend or not.
+    pub fn new(line: &Line, above: i32, title: i32, legend: bool) -> Layout {
         let n = line.n() as i32;
         let room = page_top(1) - page_top(0) - 2 * SLACK;
         let (columns, by_height) = match n <= MOST_ACROSS {
@@ -70,8 +75,9 @@ impl Layout {
         let by_width = (column_width(columns) - GUTTER) / n;
         let by_height = (by_height - HEAD - GAP - BELOW) / (n + 2);
         let cell = by_width.min(by_height).min(MOST_CELL);
-        let mut layout = Layout { n, last: i32::from(line.t()) + 2, cell, tops: Vec::new() };
-        layout.tops = layout.tops(head);
+        let least = if legend { LEGEND } else { 0 };
+        let mut layout = Layout { n, last: i32::from(line.t()) + 2, cell, title, least, tops: Vec::new() };
+        layout.tops = layout.tops(above);
         layout
     }
 
@@ -80,19 +86,26 @@ impl Layout {
         self.n <= MOST_ACROSS
     }
 
-    /// Bands one below the other; one that would be cut by a page's end begins on the next page.
-    fn tops(&self, head: i32) -> Vec<i32> {
-        let (mut tops, mut y) = (Vec::new(), head);
+    /// Bands one below the other; one that would be cut by a page's end begins on the next page. The title stands right
+    /// above the first.
+    fn tops(&self, above: i32) -> Vec<i32> {
+        let (mut tops, mut y) = (Vec::new(), above);
         for band in 0..=self.band(self.last) {
-            let height = self.band_height(band);
+            let title = if band == 0 { self.title } else { 0 };
+            let height = title + self.band_height(band);
             if page(y) != page(y + height + SLACK) {
                 y = page_top(page(y) + 1);
             }
-            tops.push(y);
+            tops.push(y + title);
             y += height;
         }
         tops.push(y);
         tops
+    }
+
+    /// Where the title begins.
+    pub fn top(&self) -> i32 {
+        self.tops[0] - self.title
     }
 
     fn band(&self, block: i32) -> i32 {
@@ -110,7 +123,7 @@ impl Layout {
             _ if 2 * band - 1 == self.last => 2,
             _ => 3,
         };
-        let least = if band == 0 { LEGEND } else { 0 };
+        let least = if band == 0 { self.least } else { 0 };
         least.max(BLOCK_HEAD + panels * self.panel_height())
     }
 
@@ -192,9 +205,9 @@ impl Layout {
         self.columns() - 1
     }
 
-    /// The whole drawing's width and height.
-    pub fn size(&self) -> (i32, i32) {
-        (WIDTH, self.tops[self.tops.len() - 1] + MARGIN - BELOW)
+    /// Where the rounds end.
+    pub fn end(&self) -> i32 {
+        self.tops[self.tops.len() - 1]
     }
 }
 

@@ -4,7 +4,7 @@ use super::grid::DIFFER;
 use super::layout::{BAR, HEAD};
 use super::svg::Font;
 use super::words::lines;
-use super::{Drawing, Kind, GRADES, SMALL};
+use super::{is_number, Drawing, Kind, GRADES, SMALL};
 
 /// The side of an entry's sample, and where its words begin.
 const SIDE: i32 = 20;
@@ -39,8 +39,11 @@ const ENTRIES: [Entry; 11] = [
     Entry::Grades,
 ];
 
-fn meaning(entry: Entry) -> &'static str {
+/// What a sample means, of one bit alone or of a bit of a number.
+fn meaning(entry: Entry, number: bool) -> &'static str {
     match entry {
+        Entry::Byte(Kind::Zero) if number => "0: this bit is 0",
+        Entry::Byte(Kind::One) if number => "1: this bit is 1",
         Entry::Byte(Kind::Zero) => "0: keep the old recipe",
         Entry::Byte(Kind::One) => "1: change over",
         Entry::Byte(Kind::Blank) => "2 where all tell z: blank",
@@ -104,7 +107,7 @@ impl Drawing<'_> {
                 words += 2 * SIDE;
             }
         }
-        self.svg.text(words, SIDE / 2 + SMALL.drop(), SMALL, meaning(entry));
+        self.svg.text(words, SIDE / 2 + SMALL.drop(), SMALL, meaning(entry, is_number(self.width)));
     }
 
     fn sample(&mut self, kind: Kind) {

@@ -1,18 +1,32 @@
 //! The thresholds and letters of a run, in a planner's words: document 01, "The graded exchange" and "The
-//! broadcast", with Tickets 2 and 4 of document 02.
+//! broadcast", with Tickets 2, 4 and 5 of document 02.
 
+use super::is_number;
 use crate::line::Line;
+use crate::number::Width;
 
 /// A term and what it means on this line.
 pub type Meaning = (String, String);
 
-/// The thresholds, what a station holds during an exchange, and the other words.
-pub fn meanings(line: &Line) -> [Vec<Meaning>; 3] {
-    [thresholds(line), letters(line), words(line)]
+/// The thresholds, of a number with its bits before them, what a station holds during an exchange, and the other words.
+pub fn meanings(line: &Line, width: Width) -> [Vec<Meaning>; 3] {
+    let number = if is_number(width) { bits(width) } else { vec![] };
+    [[number, thresholds(line)].concat(), letters(line), words(line)]
 }
 
 fn entry(term: impl Into<String>, meaning: impl Into<String>) -> Meaning {
     (term.into(), meaning.into())
+}
+
+/// How a number and what comes out of it are made of bits.
+fn bits(width: Width) -> Vec<Meaning> {
+    vec![
+        entry(
+            format!("w = {}", width.count()),
+            "so many bits has the number, each agreed on alone, bit 0 first; a 1 in bit b is worth 2 to the power b",
+        ),
+        entry("number", "its grade is its bits' smallest, its count their largest; its flag is raised if a bit's is"),
+    ]
 }
 
 /// Where n−T and n−t are the same, grade 1 does not occur.
@@ -84,8 +98,10 @@ fn words(line: &Line) -> Vec<Meaning> {
 mod tests {
     use super::*;
 
+    const ONE: u8 = 1;
+
     fn meaning(line: &Line, term: &str) -> String {
-        let all = meanings(line).concat();
+        let all = meanings(line, Width::new(ONE).unwrap()).concat();
         let (_, meaning) = all.iter().find(|(name, _)| name == term).unwrap_or_else(|| panic!("{term}"));
         meaning.clone()
     }
@@ -111,9 +127,20 @@ mod tests {
         for (n, t, upper) in [(1, 0, 0), (3, 0, 1), (4, 1, 1), (9, 1, 3), (32, 10, 10), (32, 0, 15)] {
             let line = Line::new(n, t, upper).unwrap();
             let occurs = (0..=n).any(|count| count >= line.quorum() && count < line.full_quorum());
-            let words = meanings(&line)[0].iter().map(|(_, words)| words.clone()).collect::<String>();
+            let words = meanings(&line, Width::new(ONE).unwrap())[0]
+                .iter()
+                .map(|(_, words)| words.clone())
+                .collect::<String>();
             assert_eq!(words.contains("give grade 1"), occurs, "{words}");
             assert_eq!(words.contains("grade 1 does not occur"), !occurs, "{words}");
         }
+    }
+    /// Of a number it is said how it is made of its bits; of one bit alone nothing is.
+    #[test]
+    fn bits_of_a_number() {
+        let line = Line::new(9, 1, 3).unwrap();
+        let terms = |w| meanings(&line, Width::new(w).unwrap()).concat().into_iter().map(|(term, _)| term);
+        let more = |w| terms(w).filter(|term| !terms(ONE).any(|other| other == *term)).collect::<Vec<_>>();
+        assert_eq!([0, 2, 8].map(more), [vec![], vec!["w = 2", "number"], vec!["w = 8", "number"]]);
     }
 }

@@ -1,4 +1,4 @@
-//! A drawing of one run on a page's width: what came out, what the letters mean, then for each round a grid
+//! A drawing of one run on a page's width: what came out, what the letters mean, then for each round of each bit a grid
 //! of who said what to whom.
 
 mod grid;
@@ -8,25 +8,36 @@ mod legend;
 mod meanings;
 mod outcome;
 mod svg;
+mod title;
 mod verdict;
 mod words;
 
 use crate::ballot::Ballot;
 use crate::line::{Header, Part};
 use crate::listing::Run;
+use crate::number::Width;
 use crate::station::Station;
-use layout::Layout;
+use layout::{Layout, BELOW, MARGIN, WIDTH};
 use svg::{Font, Svg};
 
 const BODY: Font = Font::plain(14);
 const SMALL: Font = Font::plain(13);
 const HEADING: Font = Font::plain(14).bold();
 
-/// A drawing in the making.
+/// A drawing in the making: the rounds of one bit.
 struct Drawing<'a> {
+    /// This bit's run.
     run: &'a Run,
+    bit: u8,
+    /// Of the whole number.
+    width: Width,
     layout: Layout,
     svg: Svg,
+}
+
+/// Whether a number is drawn and not one bit, which has words of its own.
+fn is_number(width: Width) -> bool {
+    width.count() > 1
 }
 
 /// How a ballot byte is shown.
@@ -76,7 +87,7 @@ const GRADES: [Look; 3] = [("#f0f0f0", "0"), ("#d0d0d0", "1"), ("#a6a6a6", "2")]
 
 /// Each station's state before the first round and after each; none for a bad one.
 fn states(run: &Run) -> Vec<Vec<Option<Station>>> {
-    let Header { n, t, upper, sender, value, marks } = run.header;
+    let Header { n, t, upper, sender, value, marks, .. } = run.header;
     let open = |own| Station::open((n, t, upper), sender, own, value).ok().filter(|_| !marks.bad(own));
     let mut now: Vec<Option<Station>> = run.line.stations().map(open).collect();
     let mut states = vec![now.clone()];
@@ -103,31 +114,52 @@ impl Drawing<'_> {
         self.svg.text(x, y + 20, HEADING, words);
     }
 
-    /// The headings of the blocks: round 1, each phase, the last exchange.
+    /// The headings of the blocks: round 1, each phase, the last exchange. Those of a number tell their bit.
     fn headings(&mut self) {
-        let kings = self.run.line.t() + 1;
-        self.heading(self.layout.block(0), "The sender speaks");
+        let (kings, bit) = (self.run.line.t() + 1, self.bit);
+        let number = is_number(self.width);
+        let [first, last] = match number {
+            false => ["The sender speaks".to_string(), "Last exchange: y is the value decided".to_string()],
+            true => ["the sender speaks", "last exchange: y is the bit decided"]
+                .map(|words| format!("Bit {bit}, {words}")),
+        };
+        self.heading(self.layout.block(0), &first);
         for phase in 1..=kings {
             let bad = if self.run.header.marks.bad(phase) { ", who is bad" } else { "" };
-            self.heading(
-                self.layout.block(phase),
-                &format!("Phase {phase}: the king is station {phase}{bad}"),
-            );
+            let words = match number {
+                false => format!("Phase {phase}: the king is station {phase}{bad}"),
+                true => format!("Bit {bit}, phase {phase}: the king is {phase}{bad}"),
+            };
+            self.heading(self.layout.block(phase), &words);
         }
-        self.heading(self.layout.block(kings + 1), "Last exchange: y is the value decided");
+        self.heading(self.layout.block(kings + 1), &last);
+    }
+
+    /// Draws the bit's rounds, the first bit's with the legend.
+    fn rounds(&mut self) {
+        if self.bit == 0 {
+            self.legend();
+        }
+        self.headings();
+        for (round, states) in (1..).zip(states(self.run).windows(2)) {
+            self.round(round, &states[0], &states[1]);
+        }
     }
 }
 
 /// The drawing of a run, as SVG.
 pub fn draw(run: &Run) -> String {
+    let width = run.header.width().expect("an accepted run");
     let mut svg = Svg::default();
-    let layout = Layout::new(&run.line, head::head(&mut svg, run));
-    let size = layout.size();
-    let mut drawing = Drawing { run, layout, svg };
-    drawing.legend();
-    drawing.headings();
-    for (round, states) in (1..).zip(states(run).windows(2)) {
-        drawing.round(round, &states[0], &states[1]);
+    let mut end = head::head(&mut svg, run);
+    for bit in width.bits() {
+        let of_bit = &run.of_bit(bit);
+        let title = title::of_bit(of_bit, bit, width);
+        let layout = Layout::new(&run.line, end, title.height(), bit == 0);
+        title.draw(&mut svg, layout.top());
+        let mut drawing = Drawing { run: of_bit, bit, width, layout, svg };
+        drawing.rounds();
+        (svg, end) = (drawing.svg, drawing.layout.end());
     }
-    drawing.svg.finish(size, "A rehearsal: what came out, and each round")
+    svg.finish((WIDTH, end + MARGIN - BELOW), "A rehearsal: what came out, and each round")
 }

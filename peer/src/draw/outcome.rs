@@ -1,10 +1,10 @@
-//! The table of outcomes: value, grade, flag and count of each station.
+//! The table of outcomes: value, grade, flag and count of each station; of a number each bit's value and flag too.
 
 use super::layout::MARGIN;
 use super::svg::{Font, Svg};
-use super::{Kind, GRADES, SMALL};
+use super::{is_number, Kind, GRADES, SMALL};
 use crate::listing::Run;
-use crate::outcome::{outcomes, Outcome, OUTCOME};
+use crate::outcome::{self, outcomes, Outcome, OUTCOME};
 
 /// The side of a cell. 32 of them have room beside the labels.
 const CELL: i32 = 24;
@@ -12,25 +12,52 @@ const CELL: i32 = 24;
 const LABELS: i32 = 160;
 /// The rows, with the stations' numbers first.
 const ROWS: [&str; 1 + OUTCOME] = ["station", "value decided", "grade (how sure)", "flag", "rounds garbled"];
+/// The row of the value.
+const VALUE: usize = 1;
+
+/// A column of the table: a station's outcome, and those of its number's bits, the highest first. One bit alone has none.
+struct Column {
+    outcome: Outcome,
+    bits: Vec<Outcome>,
+}
+
+/// The bits of a number, the highest first.
+fn bits(run: &Run) -> Vec<u8> {
+    let width = run.header.width().expect("an accepted run");
+    width.bits().rev().filter(|_| is_number(width)).collect()
+}
+
+/// The rows' labels.
+fn labels(run: &Run) -> Vec<String> {
+    let bits = bits(run);
+    let mut labels: Vec<String> = ROWS.map(str::to_string).to_vec();
+    if !bits.is_empty() {
+        labels[VALUE] = "number decided".to_string();
+    }
+    labels.extend(bits.iter().map(|&bit| format!("bit {bit}, worth {}", 1 << bit)));
+    labels
+}
 
 /// Draws the table below y and gives where it ends.
 pub fn table(svg: &mut Svg, run: &Run, y: i32) -> i32 {
-    for (row, label) in (0..).zip(ROWS) {
+    let labels = labels(run);
+    for (row, label) in (0..).zip(&labels) {
         svg.text(MARGIN, y + row * CELL + middle(SMALL), SMALL, label);
     }
+    let of_bits: Vec<Run> = bits(run).into_iter().map(|bit| run.of_bit(bit)).collect();
     for (station, outcome) in run.line.stations().zip(outcomes(&run.outcomes)) {
+        let bits = of_bits.iter().map(|run| outcome::outcome(&run.outcomes, station)).collect();
         svg.open(MARGIN + LABELS + (i32::from(station) - 1) * CELL, y);
-        let bad = run.header.marks.bad(station);
-        let font = if bad { SMALL.bold() } else { SMALL };
+        let font = if outcome.is_bad() { SMALL.bold() } else { SMALL };
         svg.text(CELL / 2, middle(font), font.middle(), &station.to_string());
-        if bad {
-            bad_station(svg);
+        if outcome.is_bad() {
+            bad_station(svg, labels.len() as i32 - 1);
         } else {
-            good_station(svg, &outcome);
+            good_station(svg, &Column { outcome, bits });
         }
         svg.close();
     }
-    y + ROWS.len() as i32 * CELL
+    y + labels.len() as i32 * CELL
 }
 
 /// How far below a cell's top the base line of its text stands.
@@ -38,9 +65,15 @@ const fn middle(font: Font) -> i32 {
     CELL / 2 + font.drop()
 }
 
-fn good_station(svg: &mut Svg, outcome: &Outcome) {
-    let (colour, symbol) = Kind::held(outcome.value).looks();
-    svg.square(0, CELL, CELL, colour, symbol);
+fn good_station(svg: &mut Svg, Column { outcome, bits }: &Column) {
+    if bits.is_empty() {
+        let (colour, symbol) = Kind::held(outcome.value).looks();
+        svg.square(0, CELL, CELL, colour, symbol);
+    } else {
+        // up to six bits are two digits
+        let font = Font::plain(if bits.len() <= 6 { 13 } else { 10 }).bold().middle();
+        svg.text(CELL / 2, CELL + middle(font), font, &outcome.value.to_string());
+    }
     let (colour, symbol) = GRADES[usize::from(outcome.grade)];
     svg.square(0, 2 * CELL, CELL, colour, symbol);
     if outcome.flag == 1 {
@@ -51,11 +84,27 @@ fn good_station(svg: &mut Svg, outcome: &Outcome) {
     }
     let font = if outcome.count > 0 { SMALL.bold() } else { SMALL };
     svg.text(CELL / 2, 4 * CELL + middle(font), font.middle(), &outcome.count.to_string());
+    for (of_bit, y) in bits.iter().zip((ROWS.len() as i32 * CELL..).step_by(CELL as usize)) {
+        bit(svg, y, of_bit);
+    }
 }
 
-fn bad_station(svg: &mut Svg) {
+/// A bit of a station's number, narrower where a flag stands beside it.
+fn bit(svg: &mut Svg, y: i32, outcome: &Outcome) {
+    let (colour, symbol) = Kind::held(outcome.value).looks();
+    if outcome.flag == 0 {
+        svg.square(0, y, CELL, colour, symbol);
+    } else {
+        svg.rect(0, y, (13, CELL - 1), colour);
+        svg.text(6, y + middle(SMALL), SMALL.middle(), symbol);
+        svg.flag(14, y + 6);
+    }
+}
+
+/// Hatched over so many rows, `bad` in the second.
+fn bad_station(svg: &mut Svg, rows: i32) {
     let font = Font::plain(11).middle();
-    svg.hatched(0, CELL, (CELL - 1, OUTCOME as i32 * CELL - 1));
+    svg.hatched(0, CELL, (CELL - 1, rows * CELL - 1));
     svg.rect(0, 2 * CELL, (CELL - 1, CELL - 1), "#ffffff");
     svg.text(CELL / 2, 2 * CELL + middle(font), font, "bad");
 }

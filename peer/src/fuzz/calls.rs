@@ -7,9 +7,10 @@ use super::pool::{Features, Shape};
 use crate::compare::lent::Lending;
 use crate::compare::report::Compared;
 use crate::compare::{checker, lines, reader, stations, writer};
-use crate::line::{Cause, Header, Line, Marks, SILENCE};
+use crate::line::{Cause, Header, Marks, SILENCE};
 use crate::logs::Logged;
-use crate::lot::Lot;
+use crate::lot::{widest_short, Lot};
+use crate::number::MOST_BITS;
 use crate::sheet::{self, HEADER_LEN, LONGEST, RECORDS, RECORD_LEN};
 use crate::station::{Station, STATION};
 
@@ -49,6 +50,7 @@ impl Call {
 pub fn linked() -> Vec<Call> {
     vec![
         Call::new("read", Shape::Sheet, 1, &reader::NUMBERS, read),
+        Call::new("read_bit", Shape::Sheet, 4, &reader::NUMBERS, read_bit),
         Call::new("sheet_len", Shape::Line, 16, &writer::NUMBERS, sheet_len),
         Call::new("write", Shape::Line, 8, &writer::NUMBERS, write),
         Call::new("rehearse", Shape::Line, 1, &lines::REHEARSE, rehearse),
@@ -85,8 +87,25 @@ fn stretched(bytes: &[u8], len: usize) -> Vec<u8> {
 
 /// A header of any bytes, laid out as in a sheet.
 fn header(input: &[u8]) -> Header {
-    let [n, t, upper, sender, value, _, _, _, marks @ ..] = first::<HEADER_LEN>(input);
-    Header { n, t, upper, sender, value, marks: Marks(u32::from_le_bytes(marks)) }
+    let [n, t, upper, sender, value, w, _, _, marks @ ..] = first::<HEADER_LEN>(input);
+    Header { n, t, upper, sender, value, w, marks: Marks(u32::from_le_bytes(marks)) }
+}
+
+/// The header with its own number, or with one whose tables are short: long ones take long, so they are seldom. So are those
+/// that are refused for their width alone.
+fn number(lot: &mut Lot, input: &[u8]) -> Header {
+    let header = header(input);
+    let short = widest_short(&header);
+    let kept = match header.w {
+        w if w <= short => 1,
+        w if w <= MOST_BITS => 200,
+        _ => 4,
+    };
+    if lot.one_in(kept) {
+        return header;
+    }
+    let w = header.w % (short + 1);
+    Header { w, value: header.value & u8::MAX >> (MOST_BITS - w.max(1)), ..header }
 }
 
 fn station(input: &[u8]) -> Station {
@@ -104,57 +123,75 @@ fn tried_of(compared: Compared, station: &Station, accepted: Option<Features>) -
     Tried { compared, features: accepted.unwrap_or_else(|| of_refused(station)) }
 }
 
-/// The input as a sheet; half of the time cut to a sheet's length, and byte 5 set to zero, so that more is read
-/// of it than its form.
+/// The input as a sheet with its own number or a short one; half of the time cut to a sheet's length, so that more is read of
+/// it than its form.
 pub fn sheet(lot: &mut Lot, input: &[u8]) -> Vec<u8> {
+    let header = number(lot, input);
+    sheet_of(lot, input, &header)
+}
+
+/// The same with this header's number.
+fn sheet_of(lot: &mut Lot, input: &[u8], header: &Header) -> Vec<u8> {
     let mut sheet = input.to_vec();
     if input.len() >= HEADER_LEN && lot.one_in(2) {
         let k = (input.len() - HEADER_LEN) / RECORD_LEN;
         sheet.truncate(HEADER_LEN + RECORD_LEN * k.min(RECORDS));
-        sheet[5] = 0;
     }
+    put_number(&mut sheet, header);
     sheet
+}
+
+/// Puts a header's number where there is room for it.
+fn put_number(bytes: &mut [u8], header: &Header) {
+    if let [_, _, _, _, value, w, ..] = bytes {
+        (*value, *w) = (header.value, header.w);
+    }
 }
 
 fn read(lot: &mut Lot, input: &[u8]) -> Tried {
     let sheet = sheet(lot, input);
-    let len = reader::table_len(lot, &sheet);
+    let len = reader::tables_len(lot, &sheet);
     let compared = reader::read_into(&sheet, &mut Lending::new(lot, "the table", len));
     Tried { compared, features: of_sheet(&sheet) }
 }
 
-/// The table that the sheet is read to, if it is accepted.
-fn read_table(lot: &mut Lot, input: &[u8], line: &Line) -> Option<Vec<u8>> {
-    let mut table = vec![0; line.table_len()];
-    sheet::read(&sheet(lot, input), &mut table).ok().map(|_| table)
+fn read_bit(lot: &mut Lot, input: &[u8]) -> Tried {
+    let sheet = sheet(lot, input);
+    let (len, bit) = (reader::table_len(lot, &sheet), reader::bit(lot, &sheet));
+    let compared = reader::read_bit_into(&sheet, bit, &mut Lending::new(lot, "the table", len));
+    Tried { compared, features: of_sheet(&sheet) }
 }
 
-/// A run's table: half of the time the sheet's own, else one of any bytes, now and then of another length.
-fn table(lot: &mut Lot, input: &[u8], line: &Line) -> Vec<u8> {
-    let len = lines::len(lot, line.table_len());
-    table_of(lot, input, line, len)
+/// The tables that the sheet is read to, if it is accepted.
+fn read_tables(lot: &mut Lot, input: &[u8], header: &Header) -> Option<Vec<u8>> {
+    sheet::tables(&sheet_of(lot, input, header)).ok().map(|(_, tables)| tables)
 }
 
-/// The same, of this length where it isn't the sheet's own.
-fn table_of(lot: &mut Lot, input: &[u8], line: &Line, len: usize) -> Vec<u8> {
-    let read = if lot.one_in(2) { read_table(lot, input, line) } else { None };
+/// A number's tables: half of the time the sheet's own, else of any bytes, now and then of another length.
+fn tables(lot: &mut Lot, input: &[u8], header: &Header) -> Vec<u8> {
+    let (line, exact) = lines::line_and_tables(header);
+    let len = lines::tables_len(lot, &line, exact);
+    tables_of(lot, input, header, len)
+}
+
+/// The same, of this length where they aren't the sheet's own.
+fn tables_of(lot: &mut Lot, input: &[u8], header: &Header, len: usize) -> Vec<u8> {
+    let read = if lot.one_in(2) { read_tables(lot, input, header) } else { None };
     read.unwrap_or_else(|| stretched(rest(input, HEADER_LEN), len))
 }
 
-/// A header to be written, mostly of its length and with byte 5 zero, and its table.
-fn header_and_table(lot: &mut Lot, input: &[u8]) -> (Vec<u8>, Vec<u8>) {
-    let Header { n, t, upper, .. } = header(input);
-    let table = table(lot, input, &lines::line_of((n, t, upper)));
+/// A header to be written, mostly of its length, and its tables.
+fn header_and_tables(lot: &mut Lot, input: &[u8]) -> (Vec<u8>, Vec<u8>) {
+    let header = number(lot, input);
+    let tables = tables(lot, input, &header);
     let len = lines::len(lot, HEADER_LEN);
     let mut bytes = stretched(input, len);
-    if !lot.one_in(8) {
-        bytes.get_mut(5).into_iter().for_each(|byte| *byte = 0);
-    }
-    (bytes, table)
+    put_number(&mut bytes, &header);
+    (bytes, tables)
 }
 
 fn sheet_len(lot: &mut Lot, input: &[u8]) -> Tried {
-    let (header, table) = header_and_table(lot, input);
+    let (header, table) = header_and_tables(lot, input);
     let [n] = first(&header);
     let len = crate::writer::sheet_len(&header, &table).ok();
     let accepted = len.map(|len| features(&[bits(n.into()), bits(len)]));
@@ -162,7 +199,7 @@ fn sheet_len(lot: &mut Lot, input: &[u8]) -> Tried {
 }
 
 fn write(lot: &mut Lot, input: &[u8]) -> Tried {
-    let (header, table) = header_and_table(lot, input);
+    let (header, table) = header_and_tables(lot, input);
     let [n] = first(&header);
     let needed = crate::writer::sheet_len(&header, &table).unwrap_or(LONGEST);
     let len = writer::lent_len(lot, needed);
@@ -174,33 +211,34 @@ fn write(lot: &mut Lot, input: &[u8]) -> Tried {
 
 /// A run of the header's line.
 fn rehearse(lot: &mut Lot, input: &[u8]) -> Tried {
-    let header = header(input);
-    let line = lines::line_of((header.n, header.t, header.upper));
-    let table = table(lot, input, &line);
-    let [log, outcomes] = [line.table_len(), line.outcomes_len()].map(|exact| lines::len(lot, exact));
-    let mut log = Lending::new(lot, "the log", log);
-    let mut outcomes = Lending::new(lot, "the outcomes", outcomes);
-    let compared = lines::rehearse_into(&header, &table, &mut log, &mut outcomes);
+    let header = number(lot, input);
+    let (line, exact) = lines::line_and_tables(&header);
+    let tables = tables(lot, input, &header);
+    let lens = (lines::tables_len(lot, &line, exact), lines::len(lot, line.outcomes_len()));
+    let mut log = Lending::new(lot, "the log", lens.0);
+    let mut outcomes = Lending::new(lot, "the outcomes", lens.1);
+    let compared = lines::rehearse_into(&header, &tables, &mut log, &mut outcomes);
     let accepted = compared.number == 0;
-    let accepted = accepted.then(|| of_outcomes(&line, header.marks, outcomes.ours.bytes()));
+    let accepted = accepted.then(|| of_outcomes(&line, header.w, header.marks, outcomes.ours.bytes()));
     tried(compared, header.n, accepted)
 }
 
-/// The header with what is refused of it replaced.
+/// The header with what is refused of it replaced, of one bit.
 fn accepted(header: &Header) -> Header {
     let line = lines::line_of((header.n, header.t, header.upper));
     let (n, t, upper) = (line.n() as u8, line.t(), line.upper());
     let sender = if line.has(header.sender) { header.sender } else { 1 };
     let marks = Marks(header.marks.0 & (u32::MAX >> (32 - n)));
-    Header { n, t, upper, sender, value: header.value & 1, marks }
+    Header { n, t, upper, sender, value: header.value & 1, w: 0, marks }
 }
 
 /// A log of the header's line, and outcomes: those of the table's run, or any bytes, then changed or not.
 pub fn logged(lot: &mut Lot, input: &[u8]) -> Logged {
     let Header { n, t, upper, sender, .. } = header(input);
     let line = lines::line_of((n, t, upper));
-    let table = table_of(lot, input, &line, line.table_len());
-    let mut logged = Logged::of_run(&accepted(&header(input)), &table);
+    let accepted = accepted(&header(input));
+    let table = tables_of(lot, input, &accepted, line.table_len());
+    let mut logged = Logged::of_run(&accepted, &table);
     if lot.one_in(4) {
         (logged.log, logged.outcomes) = (table, stretched(rest(input, HEADER_LEN), line.outcomes_len()));
     }
@@ -236,7 +274,7 @@ fn exchange(lot: &mut Lot, input: &[u8]) -> Tried {
     let mut outcomes = Lending::new(lot, "the outcomes", outcomes_len);
     let compared = lines::exchange_into((n, t, upper), marks, &inputs, &table, &mut outcomes);
     let accepted = compared.number == 0;
-    let accepted = accepted.then(|| of_outcomes(&line, marks, outcomes.ours.bytes()));
+    let accepted = accepted.then(|| of_outcomes(&line, 0, marks, outcomes.ours.bytes()));
     tried(compared, n, accepted)
 }
 
@@ -293,7 +331,7 @@ mod tests {
         assert_eq!(stretched(&[7, 8], 5), [7, 8, 7, 8, 7]);
         assert_eq!(stretched(&[], 2), [255, 255]);
         let marks = Marks(0x0403_0201);
-        let told = Header { n: 9, t: 8, upper: 7, sender: 6, value: 5, marks };
+        let told = Header { n: 9, t: 8, upper: 7, sender: 6, value: 5, w: 4, marks };
         assert_eq!(header(&[9, 8, 7, 6, 5, 4, 3, 2, 1, 2, 3, 4]), told);
         assert_eq!(header(&[9, 8, 7, 6, 5, 4, 3, 2, 1, 2]).marks, Marks(0x0201));
     }
@@ -304,18 +342,18 @@ mod tests {
         let found = |call: Call| planted::found(0, || (call.give)(&mut Lot(1), sheet).compared);
         let found: Vec<Vec<&str>> = linked().into_iter().map(found).collect();
         let (row, table) = (vec!["the row"], vec!["the table"]);
-        let written = vec!["the table", "the header"];
-        let read = [vec!["the sheet"], written.clone(), written, table];
+        let (sheet, written) = (vec!["the sheet"], vec!["the table", "the header"]);
+        let read = [sheet.clone(), sheet, written.clone(), written, table];
         let lines = [vec!["the outcomes", "the log"], vec!["the table", "the inputs"]];
         let stations = [vec![], vec![], row.clone(), row, vec![]];
         assert_eq!(found, [&read[..], &lines, &stations].concat());
     }
 
-    /// A header whose t, sender, value and marks are refused.
+    /// A header whose t, sender, value, w and marks are refused.
     #[test]
     fn a_log_of_any_input() {
-        let refused = header(&[4, 1, 1, 9, 7, 0, 0, 0, 0xf8, 1, 1, 1]);
-        let header = Header { sender: 1, value: 1, marks: Marks(8), ..refused };
+        let refused = header(&[4, 1, 1, 9, 7, 9, 0, 0, 0xf8, 1, 1, 1]);
+        let header = Header { sender: 1, value: 1, w: 0, marks: Marks(8), ..refused };
         assert!(header.judge().is_ok());
         assert_eq!([2, 1].map(|t| accepted(&Header { t, ..refused })), [header; 2]);
         for seed in 0..40 {
@@ -338,10 +376,31 @@ mod tests {
             all.iter().map(|compared| compared.number).collect::<Vec<u8>>()
         };
         let seeds = 0..40;
-        assert!(seeds.clone().any(|seed| numbers(sheet, seed) == [0, 0, 0, 0, 0, 0, 0, 7, 7, 7, 7]));
-        assert!(seeds.clone().any(|seed| numbers(sheet, seed)[1..3] == [0, 8]));
-        assert!((0..400).any(|seed| numbers(sheet, seed)[4] == 8));
-        assert!(seeds.clone().any(|seed| numbers(&opened, seed)[6..] == [0, 0, 0, 0, 0]));
-        assert!(seeds.clone().any(|seed| numbers(&opened, seed)[8..10] == [8, 8]));
+        assert!(seeds.clone().any(|seed| numbers(sheet, seed) == [0, 0, 0, 0, 0, 0, 0, 0, 7, 7, 7, 7]));
+        assert!(seeds.clone().any(|seed| numbers(sheet, seed)[2..4] == [0, 8]));
+        assert!((0..400).any(|seed| numbers(sheet, seed)[5] == 8));
+        assert!(seeds.clone().any(|seed| numbers(&opened, seed)[7..] == [0, 0, 0, 0, 0]));
+        assert!(seeds.clone().any(|seed| numbers(&opened, seed)[9..11] == [8, 8]));
+    }
+
+    /// A width that makes long tables is seldom kept, one that is refused now and then; the number is one of the width.
+    #[test]
+    fn numbers_of_an_input() {
+        let kept = |n: u8, w: u8| {
+            let t = (n - 1) / 3;
+            let of = |seed| number(&mut Lot(seed), &[n, t, t, 1, 0xff, w]);
+            let (own, other): (Vec<Header>, Vec<Header>) =
+                (0..2_000).map(of).partition(|header| header.w == w);
+            let short = |header: &Header| lines::line_and_tables(header).1 <= 36_864;
+            assert!(other.iter().all(|header| header.judge().is_ok() && short(header)));
+            assert!(own.iter().all(|header| header.value == 0xff));
+            own.len()
+        };
+        assert_eq!([(4, 0), (4, 1), (4, 8), (32, 1)].map(|(n, w)| kept(n, w)), [2_000; 4]);
+        let (long, refused) = (kept(32, 8), [9, 255].map(|w| kept(4, w)));
+        assert!(
+            (1..40).contains(&long) && refused.iter().all(|many| (300..800).contains(many)),
+            "{long} {refused:?}"
+        );
     }
 }

@@ -1,5 +1,7 @@
 //! What is told coarsely of an input and its answer, so that a new kind is noticed.
 
+use std::collections::BTreeSet;
+
 use super::pool::Features;
 use crate::line::{Header, Line, Marks, Part, SILENCE};
 use crate::outcome::{self, Outcome};
@@ -18,33 +20,35 @@ pub fn bits(number: usize) -> u8 {
     (usize::BITS - number.leading_zeros()) as u8
 }
 
-/// Of a sheet: its line, how far its chain goes, which ballots it tells, how many stations are marked.
+/// Of a sheet: its line, how far its chain goes, which ballots it tells, how many stations are marked, how many bits its number
+/// has and how many of them its chain tells of.
 pub fn of_sheet(sheet: &[u8]) -> Features {
     let Ok(header) = sheet::header(sheet) else { return features(&[bits(sheet.len())]) };
-    let Header { n, t, marks, .. } = header;
+    let Header { n, t, w, marks, .. } = header;
     if header.judge().is_err() {
         return features(&[0, bits(n.into())]);
     }
-    let ballots = chained(sheet);
+    let chained = chained(sheet);
     let kind = |ballot: u8| 1 << if ballot == SILENCE { 4 } else { ballot.min(3) };
-    let kinds = ballots.iter().fold(0, |kinds, &ballot| kinds | kind(ballot));
-    let walked = bits(ballots.len());
-    features(&[0, bits(n.into()), bits(t.into()), walked, kinds, bits(marks.count() as usize)])
+    let kinds = chained.iter().fold(0, |kinds, &(ballot, _)| kinds | kind(ballot));
+    let told = chained.iter().fold(0u8, |told, &(_, bit)| told | 1 << bit.min(7)).count_ones();
+    let [walked, told, marked] = [chained.len(), told as usize, marks.count() as usize].map(bits);
+    features(&[0, bits(n.into()), bits(t.into()), walked, kinds, marked, bits(w.into()), told])
 }
 
-/// The ballots of the records that a chain reaches until it ends, leaves the sheet or comes back.
-fn chained(sheet: &[u8]) -> Vec<u8> {
+/// The ballots and bits of the records that a chain reaches until it ends, leaves the sheet or comes back.
+fn chained(sheet: &[u8]) -> Vec<(u8, u8)> {
     let k = (sheet.len() - HEADER_LEN) / RECORD_LEN;
     let next = |at: usize| usize::from(u16::from_le_bytes([sheet[at], sheet[at + 1]]));
     let mut reached = vec![false; k + 1];
-    let (mut index, mut ballots) = (next(6), Vec::new());
+    let (mut index, mut chained) = (next(6), Vec::new());
     while (1..=k).contains(&index) && !reached[index] {
         reached[index] = true;
         let at = HEADER_LEN + RECORD_LEN * (index - 1);
-        ballots.push(sheet[at + 3]);
+        chained.push((sheet[at + 3], sheet[at + 6]));
         index = next(at + 4);
     }
-    ballots
+    chained
 }
 
 /// How many of the thresholds f exceeds.
@@ -53,14 +57,16 @@ fn beside(line: &Line, marks: Marks) -> u8 {
     exceeded(line.t()) + exceeded(line.upper())
 }
 
-/// Of an accepted run or exchange: its line, f beside the thresholds, which values with which grades came, and counts of
-/// how many bits.
-pub fn of_outcomes(line: &Line, marks: Marks, outcomes: &[u8]) -> Features {
-    let kind = |outcome: &Outcome| 1 << (3 * outcome.value + outcome.grade);
-    let good = || outcome::outcomes(outcomes).filter(|outcome| outcome.value <= 1);
+/// Of an accepted run or exchange: its line, f beside the thresholds, which values, 0 or another, with which grades came, counts
+/// of how many bits, how many bits the number has and how many different ones are decided.
+pub fn of_outcomes(line: &Line, w: u8, marks: Marks, outcomes: &[u8]) -> Features {
+    let kind = |outcome: &Outcome| 1 << (3 * u8::from(outcome.value > 0) + outcome.grade);
+    let good = || outcome::outcomes(outcomes).filter(|outcome| !outcome.is_bad());
     let kinds = good().fold(0, |kinds, outcome| kinds | kind(&outcome));
     let counts = good().fold(0, |counts, outcome| counts | 1 << bits(outcome.count.into()));
-    features(&[bits(line.n()), bits(line.t().into()), beside(line, marks), kinds, counts])
+    let decided = bits(good().map(|outcome| outcome.value).collect::<BTreeSet<u8>>().len());
+    let [n, t, w] = [line.n(), line.t().into(), w.into()].map(bits);
+    features(&[n, t, beside(line, marks), kinds, counts, w, decided])
 }
 
 /// Of a log that is checked: its line, how many stations broke the rules, whether the sender did.
@@ -116,14 +122,17 @@ mod tests {
         let sheet = |first: u8, nexts: &[u8]| {
             let mut sheet = vec![4, 1, 1, 1, 1, 0, first, 0, 8, 0, 0, 0];
             let records = nexts.iter().zip(10..);
-            records.for_each(|(&next, ballot)| sheet.extend([1, 4, 1, ballot, next, 0, 0, 0]));
+            records.for_each(|(&next, ballot)| sheet.extend([1, 4, 1, ballot, next, 0, ballot - 10, 0]));
             sheet
         };
         assert_eq!(chained(&sheet(0, &[0])), []);
         assert_eq!(chained(&sheet(1, &[])), []);
-        assert_eq!(chained(&sheet(2, &[0, 1])), [11, 10]);
-        assert_eq!(chained(&sheet(1, &[2, 3, 1])), [10, 11, 12]);
-        assert_eq!(chained(&sheet(1, &[2, 9, 0])), [10, 11]);
+        assert_eq!(chained(&sheet(2, &[0, 1])), [(11, 1), (10, 0)]);
+        assert_eq!(chained(&sheet(1, &[2, 3, 1])), [(10, 0), (11, 1), (12, 2)]);
+        assert_eq!(chained(&sheet(1, &[2, 9, 0])), [(10, 0), (11, 1)]);
+        let mut of_number = sheet(1, &[2, 3, 0]);
+        of_number[5] = 3;
+        assert_eq!(of_sheet(&of_number), [0, 3, 1, 2, 8, 1, 2, 2]);
     }
 
     #[test]
@@ -136,11 +145,12 @@ mod tests {
     fn sizes_and_outcomes() {
         assert_eq!([0, 1, 2, 3, 4, 4_096].map(bits), [0, 1, 2, 2, 3, 13]);
         let line = Line::new(4, 0, 1).unwrap();
-        let told = |marks: u32, outcomes: &[u8]| of_outcomes(&line, Marks(marks), outcomes);
+        let told = |w: u8, marks: u32, outcomes: &[u8]| of_outcomes(&line, w, Marks(marks), outcomes);
         let bad = [255; 4];
-        assert_eq!(told(0, &[[0, 2, 0, 0], [0, 2, 0, 0]].concat()), [3, 0, 0, 4, 1, 0, 0, 0]);
-        assert_eq!(told(2, &[[0, 0, 1, 3], bad, [1, 2, 0, 0]].concat()), [3, 0, 1, 33, 5, 0, 0, 0]);
-        assert_eq!(told(6, &[[0, 0, 1, 1], bad, bad].concat()), [3, 0, 2, 1, 2, 0, 0, 0]);
+        assert_eq!(told(0, 0, &[[0, 2, 0, 0], [0, 2, 0, 0]].concat()), [3, 0, 0, 4, 1, 0, 1, 0]);
+        assert_eq!(told(1, 2, &[[0, 0, 1, 3], bad, [1, 2, 0, 0]].concat()), [3, 0, 1, 33, 5, 1, 2, 0]);
+        assert_eq!(told(0, 6, &[[0, 0, 1, 1], bad, bad].concat()), [3, 0, 2, 1, 2, 0, 1, 0]);
+        assert_eq!(told(8, 1, &[bad, [255, 2, 0, 0], [7, 1, 1, 0]].concat()), [3, 0, 1, 48, 1, 4, 2, 0]);
         assert_eq!(of_broken(&line, 2, Marks(0b1010)), [3, 0, 2, 2, 1, 0, 0, 0]);
         assert_eq!(of_broken(&line, 1, Marks(0b0010)), [3, 0, 1, 1, 0, 0, 0, 0]);
     }

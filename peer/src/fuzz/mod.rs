@@ -156,7 +156,7 @@ mod tests {
     /// From a header alone, without a record. As many turns find it again, one fewer don't.
     #[test]
     fn a_planted_difference_is_found() {
-        let fresh = || Fuzz::of(1, vec![planted(3)], &[SEEDS[2]]);
+        let fresh = || Fuzz::of(1, vec![planted(3)], &[SEEDS[4]]);
         let mut fuzz = fresh();
         while fuzz.failed() == 0 && fuzz.turns < 60_000 {
             fuzz.turn();
@@ -170,10 +170,10 @@ mod tests {
     }
 
     /// This implementation's reader stands for the verified one too. Each answer is counted here as well.
-    fn itself(counts: &Rc<RefCell<[u64; 15]>>) -> Call {
+    fn itself(counts: &Rc<RefCell<[u64; 16]>>) -> Call {
         let counts = counts.clone();
         Call::new("itself", Shape::Sheet, 1, &reader::NUMBERS, move |lot, input| {
-            let len = reader::table_len(lot, input);
+            let len = reader::tables_len(lot, input);
             let mut table = Lending::new(lot, "the table", len);
             let read = |lent: &mut Lent| sheet::read(input, lent.bytes()).map_or_else(Cause::number, |_| 0);
             let (number, again) = (read(&mut table.ours), read(&mut table.theirs));
@@ -185,7 +185,7 @@ mod tests {
 
     #[test]
     fn nothing_is_found_where_nothing_differs() {
-        let counts = Rc::new(RefCell::new([0; 15]));
+        let counts = Rc::new(RefCell::new([0; 16]));
         let mut fuzz = Fuzz::of(1, vec![itself(&counts)], &SEEDS);
         fuzz.run(Until::Turns(5_000));
         let report = fuzz.report();

@@ -3,13 +3,14 @@
 use std::ops::Range;
 
 use crate::lot::Lot;
+use crate::number::MOST_BITS;
 use crate::sheet::{HEADER_LEN, RECORD_LEN};
 
 /// No input gets longer. The longest sheet has 32,780 bytes.
 pub const LONGEST_INPUT: usize = 40_000;
 
 /// Bytes at the edges of what is allowed somewhere.
-const EDGES: [u8; 11] = [0, 1, 2, 3, 11, 12, 31, 32, 33, 254, 255];
+const EDGES: [u8; 13] = [0, 1, 2, 3, 8, 9, 11, 12, 31, 32, 33, 254, 255];
 
 /// Changes an input once, or a few times. `other` is one to splice with.
 pub fn mutate(lot: &mut Lot, input: &mut Vec<u8>, other: &[u8]) {
@@ -136,7 +137,7 @@ fn index(lot: &mut Lot, input: &mut [u8]) {
     }
 }
 
-/// Chains one record more behind a record or the header: a copy of one, mostly with another number in it.
+/// Chains one record more behind a record or the header: a copy of one, mostly with another number in it, of any bit.
 fn link(lot: &mut Lot, input: &mut Vec<u8>) {
     let k = records_in(input.len());
     if input.len() < HEADER_LEN || input.len() != place_of(k + 1) {
@@ -153,7 +154,7 @@ fn link(lot: &mut Lot, input: &mut Vec<u8>) {
     }
     let at = place_of_next(lot.below(k as u64 + 1) as usize);
     record[4..6].copy_from_slice(&input[at..at + 2]);
-    record[6..].fill(0);
+    (record[6], record[7]) = (lot.below(u64::from(input[5].clamp(1, MOST_BITS))) as u8, 0);
     input[at..at + 2].copy_from_slice(&(k as u16 + 1).to_le_bytes());
     input.extend(record);
 }
@@ -223,5 +224,16 @@ mod tests {
         let mut short = vec![0; 13];
         link(&mut Lot(1), &mut short);
         assert_eq!(short, [0; 13]);
+        input[5] = 3;
+        let of_number = (0..40).map(|seed| {
+            let mut two = input.clone();
+            link(&mut Lot(seed), &mut two);
+            (two[26], two[27])
+        });
+        let bits: Vec<(u8, u8)> = of_number.collect();
+        assert!(
+            (0..3).all(|bit| bits.contains(&(bit, 0)))
+                && bits.iter().all(|&(bit, last)| bit < 3 && last == 0)
+        );
     }
 }

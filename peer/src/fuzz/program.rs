@@ -16,7 +16,7 @@ use crate::sheet::records;
 use crate::writer::rewritten;
 
 /// The numbers that both programs can tell: the reader's without a lent table.
-const NUMBERS: [u8; 12] = [0, 1, 2, 3, 4, 5, 6, 9, 10, 11, 12, 13];
+const NUMBERS: [u8; 13] = [0, 1, 2, 3, 4, 5, 6, 9, 10, 11, 12, 13, 15];
 
 /// What a program must print of a sheet.
 type Wanted = fn(&[u8]) -> Vec<u8>;

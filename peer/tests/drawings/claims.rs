@@ -27,6 +27,8 @@ fn listed(words: &str) -> Vec<u8> {
 /// What is true of a run, for the sentences to be held against.
 pub struct Truth<'a> {
     header: &'a Header,
+    /// Whether the words are those of a number, or of a bit of it.
+    number: bool,
     f: usize,
     values: Vec<u8>,
     flags: usize,
@@ -42,11 +44,17 @@ impl Truth<'_> {
         let counts = good.iter().map(|(station, outcome)| (*station, usize::from(outcome.count)));
         Truth {
             header: &run.header,
+            number: run.header.w > 1,
             f: run.header.marks.count() as usize,
             values: good.iter().map(|(_, outcome)| outcome.value).collect(),
             flags: good.iter().filter(|(_, outcome)| outcome.flag == 1).count(),
             garbled: counts.filter(|(_, count)| *count > 0).collect(),
         }
+    }
+
+    /// Of one bit of a number.
+    pub fn of_bit(run: &Run) -> Truth<'_> {
+        Truth { number: true, ..Truth::of(run) }
     }
 
     fn good(&self) -> usize {
@@ -58,11 +66,16 @@ impl Truth<'_> {
     }
 
     fn differ(&self) -> bool {
-        self.deciding(0) > 0 && self.deciding(1) > 0
+        self.values.iter().any(|value| *value != self.values[0])
     }
 
     /// Takes what so many stations are said to do off the words, and gives the value.
     fn does<'w>(&self, words: &'w str, stations: usize) -> (u8, &'w str) {
+        if self.number {
+            let number = words.strip_prefix(if stations == 1 { "decides " } else { "decide " }).unwrap();
+            let end = number.find(|letter: char| !letter.is_ascii_digit()).unwrap_or(number.len());
+            return (number[..end].parse().unwrap(), &number[end..]);
+        }
         let forms = match stations {
             1 => [(0, "keeps the old recipe"), (1, "changes over")],
             _ => [(0, "keep the old recipe"), (1, "change over")],
@@ -101,11 +114,7 @@ impl Truth<'_> {
         if let Some((who, what)) = said.split_once(" good stations differ") {
             let (flags, counts) = what.split_once(". ").unwrap();
             assert_eq!(count(who.strip_prefix("The ").unwrap()), self.good());
-            let (ones, zeros) = counts.split_once(", ").unwrap();
-            for (value, words) in [(1, ones), (0, zeros)] {
-                let (many, what) = words.split_once(' ').unwrap();
-                assert_eq!((self.deciding(value), (value, "")), (count(many), self.does(what, count(many))));
-            }
+            self.check_split(counts);
             assert!(self.differ());
             return ("differ", self.check_flags(flags));
         }
@@ -118,7 +127,33 @@ impl Truth<'_> {
         assert_eq!(stations, self.good());
         let (value, flags) = self.does(what.trim_start_matches('s').trim_start(), stations);
         assert_eq!(self.deciding(value), self.good());
-        (["all keep", "all change over"][usize::from(value)], self.check_flags(flags))
+        let kinds =
+            if self.number { "all decide" } else { ["all keep", "all change over"][usize::from(value)] };
+        (kinds, self.check_flags(flags))
+    }
+
+    /// How many good stations are said to decide each value: of one bit 1 and then 0, of a number the most frequent first, then
+    /// the smallest; where the last are other numbers, there are too many to be told.
+    fn check_split(&self, words: &str) {
+        let (told, others) = match words.strip_suffix(" decide other numbers") {
+            Some(words) => words.split_once(", and ").map(|(told, others)| (told, count(others))).unwrap(),
+            None => (words, 0),
+        };
+        let mut values = Vec::new();
+        for words in told.split(", ") {
+            let (many, what) = words.split_once(' ').unwrap();
+            let (value, rest) = self.does(what, count(many));
+            assert_eq!((self.deciding(value), rest), (count(many), ""));
+            values.push(value);
+        }
+        let many: usize = values.iter().map(|&value| self.deciding(value)).sum();
+        assert_eq!(many + others, self.good());
+        assert!(if others == 0 { values.len() <= 4 } else { values.len() == 3 });
+        let order = |value: &u8| (self.good() - self.deciding(*value), *value);
+        match self.number {
+            true => assert!(values.windows(2).all(|two| order(&two[0]) < order(&two[1]))),
+            false => assert_eq!(values, [1, 0]),
+        }
     }
 
     /// Who is said to be bad.
@@ -143,6 +178,14 @@ impl Truth<'_> {
         if said == "No good station counts a garbled round" {
             assert_eq!(self.garbled, []);
             return "no garbled round";
+        }
+        let of_bit = said.strip_suffix(" in one bit");
+        assert_eq!(of_bit.is_some(), self.number);
+        let said = of_bit.unwrap_or(said);
+        if let Some((station, most)) = said.split_once(" counts garbled rounds, ").filter(|_| self.number) {
+            let station = station.strip_prefix("Station ").unwrap().parse().unwrap();
+            assert_eq!(self.garbled, [(station, count(most.strip_suffix(" at most").unwrap()))]);
+            return "garbled rounds at one station";
         }
         if let Some((station, rounds)) = said.split_once(" counts ") {
             let station = station.strip_prefix("Station ").unwrap().parse().unwrap();
