@@ -156,7 +156,7 @@ mod tests {
     /// From a header alone, without a record. As many turns find it again, one fewer don't.
     #[test]
     fn a_planted_difference_is_found() {
-        let fresh = || Fuzz::of(1, vec![planted(3)], &[SEEDS[4]]);
+        let fresh = || Fuzz::of(1, vec![planted(3)], &[SEEDS[2]]);
         let mut fuzz = fresh();
         while fuzz.failed() == 0 && fuzz.turns < 60_000 {
             fuzz.turn();
