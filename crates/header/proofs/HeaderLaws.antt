@@ -1,5 +1,5 @@
 -- Laws of the judgement: nothing is refused exactly if every number is as document 01 wants it. Assumes nothing.
-use Prim.Native.Nat.{ℕ, _+_, _*_, _≤_}
+use Prim.Native.Nat.{ℕ, _+_, _*_, _^_, _≤_, _<_}
 use mathlib.Core.Path.{_≡_, refl, ap}
 use mathlib.Core.Bool.{Bool, true, false, _||_}
 use native.Mathlib.Omega.{arith}
@@ -7,12 +7,14 @@ use lib.Dec.{leb, ltb, eqb}
 use borrow.Author.Tests.{leb-false, ltb-false, le-ltb, lt-leb, eqb-true, eq-eqb, not-false}
 use Rattle.line.specs.Line.{Fits, most-stations}
 use Rattle.line.specs.Marks.{marked, mark-beyond}
+use Rattle.line.specs.Width.{most-bits, bits, bit-of}
 use Rattle.refusal.specs.Cause.{code, Judged, refused-if, _or-else_}
-use Rattle.header.specs.Header.{outside, exceeded, station-count, thresholds, station-number, bit, marks-within, exact-length, line-verdict, header-verdict, Sound}
+use Rattle.header.specs.Header.{outside, exceeded, station-count, thresholds, station-number, bit, marks-within, exact-length, line-verdict, header-verdict, width, number-within, number-verdict, Sound, SoundNumber}
 use Rattle.refusal.specs.declared.cause.Cause.{Cause}
 use Rattle.refusal.specs.declared.cause.Verdict.{Verdict}
 use Rattle.refusal.specs.declared.cause.Verdict.the-variants.{Accepted, Refused}
 use Rattle.line.proofs.MarksLaws.{beyond-none, beyond-some}
+use Rattle.line.proofs.WidthLaws.{bit-small}
 use Rattle.refusal.proofs.VerdictLaws.{refused-true, refused-false, never, accepted-false, both-accepted, neither}
 
 -- ---- the tests
@@ -66,6 +68,14 @@ pub bit-accepts : (v : ℕ) → v ≤ 1 → bit v ≡ Accepted
 unfolding bit
 bit-accepts v h = refused-false _ (le-ltb 1 v h)
 
+width-accepts : (w : ℕ) → w ≤ most-bits → width w ≡ Accepted
+unfolding width
+width-accepts w h = refused-false _ (le-ltb most-bits w h)
+
+small-accepts : (w number : ℕ) → number < 2 ^ bits w → number-within w number ≡ Accepted
+unfolding number-within
+small-accepts w number h = refused-false _ (lt-leb (2 ^ bits w) number h)
+
 marks-accept : (n marks : ℕ) → ((i : ℕ) → n ≤ i → marked marks i ≡ false) → marks-within n marks ≡ Accepted
 unfolding marks-within
 marks-accept n marks h = refused-false _ (within-not n marks h)
@@ -114,3 +124,43 @@ module _ (n t T sender value marks : ℕ) where
   unfolding header-verdict
   header-accepts s =
       rw (line-accepts n t T (s .most) (s .fits), number-accepts n sender (s .sender-low) (s .sender-high), bit-accepts value (s .value-bit), marks-accept n marks (s .within))
+
+-- ---- of a recipe number
+
+module _ (n t T sender number w marks : ℕ) where
+  pub number-sound : number-verdict n t T sender number w marks ≡ Accepted → SoundNumber n t T sender number w marks
+  unfolding number-verdict width station-number number-within marks-within
+  number-sound e =
+      let (u, e₁) = both-accepted _ _ e in
+      let (a, e₂) = both-accepted _ _ e₁ in
+      let (c, e₃) = both-accepted _ _ e₂ in
+      let (d, m) = both-accepted _ _ e₃ in
+      let (some, most, fits) = line-sound n t T a in
+      let from = inside 1 n sender (accepted-false _ _ c) in
+      record {
+        narrow = ltb-false most-bits w (accepted-false _ _ u);
+        some = some;
+        most = most;
+        fits = fits;
+        sender-low = from .0;
+        sender-high = from .1;
+        small = leb-false (2 ^ bits w) number (accepted-false _ _ d);
+        within = λ i h. beyond-none n marks i (accepted-false _ _ m) h;
+      }
+
+  pub number-verdict-accepts : SoundNumber n t T sender number w marks → number-verdict n t T sender number w marks ≡ Accepted
+  unfolding number-verdict
+  number-verdict-accepts s =
+      rw (width-accepts w (s .narrow), line-accepts n t T (s .most) (s .fits), number-accepts n sender (s .sender-low) (s .sender-high), small-accepts w number (s .small), marks-accept n marks (s .within))
+
+  -- each bit is a value
+  pub bit-sound : SoundNumber n t T sender number w marks → (b : ℕ) → Sound n t T sender (bit-of number b) marks
+  bit-sound s b = record {
+    some = s .some;
+    most = s .most;
+    fits = s .fits;
+    sender-low = s .sender-low;
+    sender-high = s .sender-high;
+    value-bit = bit-small number b;
+    within = s .within;
+  }

@@ -1,13 +1,14 @@
--- The judgement of a header's numbers: causes 2 to 6 of document 01's table, each a test of its own, in the table's order; and of a length,
--- cause 8.
-use Prim.Native.Nat.{ℕ, _+_, _*_, _≤_}
+-- The judgement of a header's numbers: causes 2 to 6 of document 01's table, each a test of its own, in the table's order, of one bit, and with 15 of a recipe
+-- number (document 02, request 5); and of a length, cause 8.
+use Prim.Native.Nat.{ℕ, _+_, _*_, _^_, _≤_, _<_}
 use mathlib.Core.Path.{_≡_}
 use mathlib.Core.Bool.{Bool, false, not, _||_}
 use lib.Dec.{leb, ltb, eqb}
 use Rattle.line.specs.Line.{most-stations, Fits}
+use Rattle.line.specs.Width.{most-bits, bits}
 use Rattle.line.specs.Marks.{marked, mark-beyond}
 use Rattle.refusal.specs.Cause.{refused-if, _or-else_}
-use Rattle.refusal.specs.declared.cause.Cause.the-variants.{StationCount, Thresholds, StationNumber, Value, MarkBeyond, Length}
+use Rattle.refusal.specs.declared.cause.Cause.the-variants.{StationCount, Thresholds, StationNumber, Value, MarkBeyond, Length, Width}
 use Rattle.refusal.specs.declared.cause.Verdict.{Verdict}
 
 -- below low or above high
@@ -49,6 +50,25 @@ header-verdict n t T sender value marks =
     or-else bit value
     or-else marks-within n marks
 
+-- ---- of a recipe number of w bits (request 5)
+
+-- "w above 8 by 15"
+unfoldable pub width : ℕ → Verdict
+width w = refused-if (ltb most-bits w) Width
+
+-- "A number of 2 to the power w or above is refused by 5"
+unfoldable pub number-within : ℕ → ℕ → Verdict
+number-within w number = refused-if (leb (2 ^ bits w) number) Value
+
+-- 15, "right after the sheet's length, or first in a call without a sheet", then 2 to 6
+unfoldable pub number-verdict : ℕ → ℕ → ℕ → ℕ → ℕ → ℕ → ℕ → Verdict
+number-verdict n t T sender number w marks =
+    width w
+    or-else line-verdict n t T
+    or-else station-number n sender
+    or-else number-within w number
+    or-else marks-within n marks
+
 -- cause 8, of one length: "a lent table, log, outcome, input or row not of its exact length"
 unfoldable pub exact-length : ℕ → ℕ → Verdict
 exact-length wanted found = refused-if (not (eqb found wanted)) Length
@@ -61,4 +81,15 @@ pub record Sound (n t T sender value marks : ℕ) : Type 0 where
   pub sender-low : 1 ≤ sender
   pub sender-high : sender ≤ n
   pub value-bit : value ≤ 1
+  pub within : (i : ℕ) → n ≤ i → marked marks i ≡ false
+
+-- and of a recipe number (`Number-sound` and `Number-accepts`)
+pub record SoundNumber (n t T sender number w marks : ℕ) : Type 0 where
+  pub narrow : w ≤ most-bits
+  pub some : 1 ≤ n
+  pub most : n ≤ most-stations
+  pub fits : Fits n t T
+  pub sender-low : 1 ≤ sender
+  pub sender-high : sender ≤ n
+  pub small : number < 2 ^ bits w
   pub within : (i : ℕ) → n ≤ i → marked marks i ≡ false

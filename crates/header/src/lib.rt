@@ -1,9 +1,13 @@
-// The judgement of a header's numbers, causes 2 to 6, the lowest first; and of a length, cause 8.
+// The judgement of a header's numbers, causes 2 to 6, the lowest first, and of a recipe number's, 15 before these; and of a length, cause 8.
 ghost use mathlib.Core.Path.{_≡_};
+ghost use Prim.Native.Nat.{_^_};
+ghost use lib.Dec.{leb};
 ghost use Rattle.line.specs.Marks.{mark-beyond};
+ghost use Rattle.line.specs.Width.{bits};
 ghost use Rattle.refusal.specs.Cause.{Judged};
-ghost use Rattle.header.specs.Header.{outside, exceeded, station-count, thresholds, station-number, bit, marks-within, exact-length, line-verdict, header-verdict};
+ghost use Rattle.header.specs.Header.{outside, exceeded, station-count, thresholds, station-number, bit, marks-within, exact-length, line-verdict, header-verdict, width, number-within, number-verdict};
 use line::Line;
+use line::width;
 use refusal::cause::Cause;
 use refusal::cause::Verdict;
 
@@ -96,4 +100,41 @@ pub fn header_verdict(line: Line, sender: u8, value: u8, marks: u32) -> Verdict
     let c = bit(value);
     let d = marks_within(line.n, marks);
     a.or_else(b.or_else(c.or_else(d)))
+}
+
+// Cause 15.
+fn width(w: u8) -> Verdict
+    ensures { λ r. ⌜ r ≡ width w ⌝ }
+{
+    Verdict::refused_if(Line::BITS < w, Cause::Width)
+}
+
+// 2 to the power w or above.
+fn too_large(w: u8, number: u8) -> bool
+    ensures { λ r. ⌜ r ≡ leb (2 ^ bits w) number ⌝ }
+{
+    let bits = width::bits(w);
+    if bits < 8 {
+        return 1 <= number >> bits;
+    }
+    false
+}
+
+// Cause 5, of a number of w bits.
+fn number_within(w: u8, number: u8) -> Verdict
+    ensures { λ r. ⌜ r ≡ number-within w number ⌝ }
+{
+    Verdict::refused_if(too_large(w, number), Cause::Value)
+}
+
+// Cause 15, then 2 to 6, of a recipe number of w bits.
+pub fn number_verdict(line: Line, sender: u8, number: u8, w: u8, marks: u32) -> Verdict
+    ensures { λ r. ⌜ Judged (number-verdict (line .n) (line .t) (line .upper) sender number w marks) r ⌝ }
+{
+    let a = width(w);
+    let b = line_verdict(line);
+    let c = station_number(line.n, sender);
+    let d = number_within(w, number);
+    let e = marks_within(line.n, marks);
+    a.or_else(b.or_else(c.or_else(d.or_else(e))))
 }

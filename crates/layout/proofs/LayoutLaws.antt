@@ -4,7 +4,7 @@ use mathlib.Core.Path.{_≡_}
 use mathlib.Core.List.{List}
 use native.Mathlib.Omega.{arith}
 use lib.ListN.{length}
-use Rattle.layout.specs.Layout.{records, start, round, from, to, ballot, next, rest}
+use Rattle.layout.specs.Layout.{records, start, round, from, to, ballot, next, bit, rest}
 use Rattle.layout.specs.Chain.{Record}
 use Rattle.layout.specs.Numbers.{numbers-from, record-at}
 use Rattle.layout.proofs.ChainLaws.{record-true}
@@ -39,6 +39,10 @@ module _ (s : List ℕ) (i : ℕ) where
     pub next-is : record-at s i .next ≡ next s i
     unfolding next numbers-from
     next-is = rw (numbers-there r)
+
+    pub bit-is : record-at s i .bit ≡ bit s i
+    unfolding bit numbers-from
+    bit-is = rw (numbers-there r)
 
     pub rest-is : record-at s i .rest ≡ rest s i
     unfolding rest numbers-from

@@ -1,9 +1,10 @@
--- The run sheet, byte by byte (document 01, "The run sheet"). A sheet is the list of its bytes; past its end the definitions read zeros, which have
+-- The run sheet, byte by byte (document 01, "The run sheet"; document 02, request 5). A sheet is the list of its bytes; past its end the definitions read zeros, which have
 -- no effect, since a sheet whose length is wrong is refused for that.
 use Prim.Native.Nat.{ℕ, _+_, _-_, _*_, _/_}
 use mathlib.Core.List.{List}
 use lib.ListN.{length, getD}
 use Rattle.line.specs.Line.{table-length}
+use Rattle.line.specs.Width.{tables-length}
 use Rattle.layout.specs.declared.Header.{Header}
 
 unfoldable pub byte : List ℕ → ℕ → ℕ
@@ -16,18 +17,18 @@ two s i = byte s i + 256 * byte s (i + 1)
 unfoldable pub four : List ℕ → ℕ → ℕ
 four s i = two s i + 65536 * two s (i + 2)
 
--- "Header: byte 0 n, 1 t, 2 T, 3 sender, 4 value, [..] 8–11 the marks"
+-- "Header: byte 0 n, 1 t, 2 T, 3 sender, 4 value, [..] 8–11 the marks"; request 5: "Sheet byte 5 holds w, 0 standing for 1 there [..], and byte 4 the number."
 unfoldable pub header : List ℕ → Header
 header s =
-    record { n = byte s 0; t = byte s 1; upper = byte s 2; sender = byte s 3; value = byte s 4; marks = four s 8 }
+    record { n = byte s 0; t = byte s 1; upper = byte s 2; sender = byte s 3; value = byte s 4; w = byte s 5; marks = four s 8 }
 
--- the table length of the sheet's line; where the sheet has no whole header, that of the bytes there are, and zeros
+-- the length of one bit's table on the sheet's line; where the sheet has no whole header, that of the bytes there are, and zeros
 abbrev pub table-wanted : List ℕ → ℕ
 table-wanted s = table-length (header s .n) (header s .t)
 
--- "5 zero"
-unfoldable pub spare : List ℕ → ℕ
-spare s = byte s 5
+-- and of all bits' tables (request 5)
+abbrev pub tables-wanted : List ℕ → ℕ
+tables-wanted s = tables-length (header s .n) (header s .t) (header s .w)
 
 -- "6–7 index of the first record or 0"
 unfoldable pub first : List ℕ → ℕ
@@ -61,5 +62,10 @@ ballot s i = byte s (start i + 3)
 unfoldable pub next : List ℕ → ℕ → ℕ
 next s i = two s (start i + 4)
 
+-- request 5: "record byte 6 the bit from 0 to w−1"
+unfoldable pub bit : List ℕ → ℕ → ℕ
+bit s i = byte s (start i + 6)
+
+-- of the two zero bytes one is left (request 5: "11 wants only record byte 7 to be zero")
 unfoldable pub rest : List ℕ → ℕ → ℕ
-rest s i = two s (start i + 6)
+rest s i = byte s (start i + 7)

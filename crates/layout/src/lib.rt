@@ -2,29 +2,31 @@
 ghost use mathlib.Core.Path.{_≡_};
 ghost use Prim.Native.Nat.{_+_, _*_, _<_, _≤_};
 ghost use lib.ListN.{length};
-ghost use Rattle.layout.specs.Layout.{byte, header, table-wanted, spare, first, records};
+ghost use Rattle.layout.specs.Layout.{byte, header, table-wanted, tables-wanted, first, records};
 ghost use Rattle.layout.specs.Chain.{is-record};
 ghost use Rattle.layout.specs.Numbers.{numbers-from, no-numbers, record-at};
 use line::Line;
 
-// The numbers of a sheet's header.
+// The numbers of a sheet's header. `value` is the number that the sender sends, of w bits.
 pub struct Header {
     pub n: u8,
     pub t: u8,
     pub upper: u8,
     pub sender: u8,
     pub value: u8,
+    pub w: u8,
     pub marks: u32,
 }
 
-// The numbers of a record. `rest` is its last two bytes.
+// The numbers of a record. `rest` is its last byte.
 pub struct Record {
     pub round: u8,
     pub from: u8,
     pub to: u8,
     pub ballot: u8,
     pub next: usize,
-    pub rest: usize,
+    pub bit: u8,
+    pub rest: u8,
 }
 
 // A two-byte number, of its bytes.
@@ -53,11 +55,12 @@ pub fn header_of(sheet: &[u8]) -> Header
         upper: byte(sheet, 2),
         sender: byte(sheet, 3),
         value: byte(sheet, 4),
+        w: byte(sheet, 5),
         marks: (low as u32) + 65536 * (high as u32),
     }
 }
 
-// The table length of the sheet's line.
+// The length of one bit's table on the sheet's line.
 pub fn table_len(sheet: &[u8]) -> usize
     ensures { λ r. ⌜ r ≡ table-wanted (now (sheet .entry)) ⌝ }
 {
@@ -69,11 +72,16 @@ pub fn table_len(sheet: &[u8]) -> usize
     line.table_len()
 }
 
-// Byte 5, which is to be zero.
-pub fn spare(sheet: &[u8]) -> u8
-    ensures { λ r. ⌜ r ≡ spare (now (sheet .entry)) ⌝ }
+// The length of all bits' tables.
+pub fn tables_len(sheet: &[u8]) -> usize
+    ensures { λ r. ⌜ r ≡ tables-wanted (now (sheet .entry)) ⌝ }
 {
-    byte(sheet, 5)
+    let line = Line {
+        n: byte(sheet, 0),
+        t: byte(sheet, 1),
+        upper: 0,
+    };
+    line.tables_len(byte(sheet, 5))
 }
 
 // The index of the first record, or 0.
@@ -115,7 +123,8 @@ fn numbers(sheet: &[u8], at: usize) -> Record
         to: sheet[at + 2],
         ballot: sheet[at + 3],
         next: two(sheet[at + 4], sheet[at + 5]),
-        rest: two(sheet[at + 6], sheet[at + 7]),
+        bit: sheet[at + 6],
+        rest: sheet[at + 7],
     }
 }
 
@@ -129,6 +138,7 @@ fn nothing() -> Record
         to: 0,
         ballot: 0,
         next: 0,
+        bit: 0,
         rest: 0,
     }
 }

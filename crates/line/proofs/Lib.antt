@@ -4,4 +4,5 @@ pub mod LineLaws
 pub mod MarksLaws
 pub mod BallotLaws
 pub mod WritingLaws
+pub mod WidthLaws
 pub mod Theorems

@@ -33,6 +33,11 @@ module _ (l : List ℕ) (a : ℕ) (F : ℕ → ℕ) where
   over-before zero k h = refl
   over-before (suc m) k h = let ne : k ≢ a + m = λ e. omega arith in rw getD-set-other (over-before m k h)
 
+  pub over-after : (m k : ℕ) → a + m ≤ k → getD (over l a m F) k 0 ≡ getD l k 0
+  unfolding over
+  over-after zero k h = refl
+  over-after (suc m) k h = let ne : k ≢ a + m = λ e. omega arith in rw getD-set-other (over-after m k (omega arith))
+
   pub over-at : (m j : ℕ) → j < m → a + m ≤ length l → getD (over l a m F) (a + j) 0 ≡ F j
   unfolding over
   over-at zero j h b = absurd (omega arith)

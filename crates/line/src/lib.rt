@@ -1,11 +1,13 @@
 // The line of stations: its type with what follows from n, t and T, the readings of a ballot byte, and marks.
 ghost use mathlib.Core.Path.{_≡_};
 ghost use Rattle.line.specs.Line.{most-stations, rounds, table-length, has-round, largest-table, exchange-length, outcome-size, outcomes-length, largest-outcomes};
+ghost use Rattle.line.specs.Width.{most-bits, tables-length, largest-tables};
 ghost use Rattle.line.specs.Ballot.{blank, silence};
 ghost use Rattle.line.specs.Marks.{all-marks};
 
 pub mod ballot;
 pub mod marks;
+pub mod width;
 
 // A line of n stations with the thresholds t and T (document 01, "Names"). T is called upper in code, where names by convention are lower case.
 // Any bytes at all may stand in it: header::line_verdict judges them.
@@ -31,6 +33,12 @@ impl Line {
     // The longest run table of any accepted line, in bytes.
     pub const LARGEST_TABLE: usize = 36864;
 
+    // The most bits of a recipe number.
+    pub const BITS: u8 = 8;
+
+    // The tables of all bits of the longest number on the longest line, in bytes.
+    pub const LARGEST_TABLES: usize = 294912;
+
     // The bytes of a station's outcome: value, grade, flag, and how many rounds had a garbled ballot.
     pub const OUTCOME: usize = 4;
 
@@ -50,6 +58,13 @@ impl Line {
     {
         let n = self.n as usize;
         self.rounds() * n * n
+    }
+
+    // The bytes of the tables of a number of w bits, and of its logs.
+    pub fn tables_len(self, w: u8) -> usize
+        ensures { λ r. ⌜ r ≡ tables-length (self .n) (self .t) w ⌝ }
+    {
+        (width::bits(w) as usize) * self.table_len()
     }
 
     // The bytes of a ballot table for one graded exchange.
@@ -90,4 +105,9 @@ fn constants_agree()
 // The lengths too.
 fn lengths_agree()
     ensures { λ _. do ⌜ ((← ⟦Line::LARGEST_TABLE⟧ .entry) ≡ largest-table) × ((← ⟦Line::OUTCOME⟧ .entry) ≡ outcome-size) × ((← ⟦Line::LARGEST_OUTCOMES⟧ .entry) ≡ largest-outcomes) ⌝ }
+{}
+
+// And those of recipe numbers.
+fn widths_agree()
+    ensures { λ _. do ⌜ ((← ⟦Line::BITS⟧ .entry) ≡ most-bits) × ((← ⟦Line::LARGEST_TABLES⟧ .entry) ≡ largest-tables) ⌝ }
 {}

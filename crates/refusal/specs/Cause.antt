@@ -5,11 +5,11 @@ use mathlib.Core.Bool.{Bool}
 use mathlib.Core.List.{List, []}
 use Rattle.line.specs.Count.{if_then_else_}
 use Rattle.refusal.specs.declared.cause.Cause.{Cause}
-use Rattle.refusal.specs.declared.cause.Cause.the-variants.{SheetForm, StationCount, Thresholds, StationNumber, Value, MarkBeyond, StationState, Length, ChainLeaves, ChainRepeats, RecordForm, UnmarkedSender, Duplicate, TooManyRecords}
+use Rattle.refusal.specs.declared.cause.Cause.the-variants.{SheetForm, StationCount, Thresholds, StationNumber, Value, MarkBeyond, StationState, Length, ChainLeaves, ChainRepeats, RecordForm, UnmarkedSender, Duplicate, TooManyRecords, Width}
 use Rattle.refusal.specs.declared.cause.Verdict.{Verdict}
 use Rattle.refusal.specs.declared.cause.Verdict.the-variants.{Accepted, Refused}
 
--- the table's column "Number"; 14 is document 02's (Ticket 1: "more than 4,096 records to write 14")
+-- the table's column "Number"; 14 and 15 are document 02's (request 1: "more than 4,096 records to write 14"; request 5: "w above 8 by 15")
 abbrev pub number : Cause → ℕ
 number SheetForm = 1
 number StationCount = 2
@@ -25,6 +25,7 @@ number RecordForm = 11
 number UnmarkedSender = 12
 number Duplicate = 13
 number TooManyRecords = 14
+number Width = 15
 
 -- a verdict as a number: the cause's, or 0 where nothing is refused
 abbrev pub code : Verdict → ℕ

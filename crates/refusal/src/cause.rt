@@ -17,6 +17,7 @@ pub enum Cause {
     UnmarkedSender,
     Duplicate,
     TooManyRecords,
+    Width,
 }
 
 // What judging gives: nothing against it, or a cause.
@@ -45,6 +46,7 @@ impl Cause {
             Cause::UnmarkedSender => 12,
             Cause::Duplicate => 13,
             Cause::TooManyRecords => 14,
+            Cause::Width => 15,
         }
     }
 }

@@ -1,5 +1,6 @@
-use borrow.Author.Needs.{needs}
+-- `header_of` meets its contract.
 use Rattle.layout.specs.Layout.{header, two, four}
+use borrow.Author.Needs.{needs}
 use Rattle.layout.proofs.header_of.Statement.{statement}
 use Rattle.layout.proofs.header_of.Tie as tie
 
@@ -36,17 +37,20 @@ byte-requires-8 c κs = search needs
 byte-requires-9 : tie.Need-byte-requires-9
 byte-requires-9 c κs = search needs
 
-cast-t9 : tie.Need-cast-t9
-cast-t9 c = search needs
+byte-requires-10 : tie.Need-byte-requires-10
+byte-requires-10 c κs = search needs
 
 cast-t10 : tie.Need-cast-t10
 cast-t10 c = search needs
 
-mul-t11 : tie.Need-mul-t11
-mul-t11 c = search needs
+cast-t11 : tie.Need-cast-t11
+cast-t11 c = search needs
 
-add-t12 : tie.Need-add-t12
-add-t12 c = search needs
+mul-t12 : tie.Need-mul-t12
+mul-t12 c = search needs
+
+add-t13 : tie.Need-add-t13
+add-t13 c = search needs
 
 returns : tie.Need-returns
 unfolding header four two
@@ -67,8 +71,9 @@ header-of-spec =
     byte-requires-7
     byte-requires-8
     byte-requires-9
-    cast-t9
+    byte-requires-10
     cast-t10
-    mul-t11
-    add-t12
+    cast-t11
+    mul-t12
+    add-t13
     returns)

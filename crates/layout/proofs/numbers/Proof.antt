@@ -1,9 +1,10 @@
+-- `numbers` meets its contract.
+use Rattle.layout.specs.Layout.{byte, two}
+use Rattle.layout.specs.Numbers.{numbers-from}
 use borrow.Author.Needs.{needs}
 use native.Mathlib.Omega.{arith}
 use Prim.Native.Nat.{_+_}
 use mathlib.Core.Path.{_≡_}
-use Rattle.layout.specs.Layout.{byte, two}
-use Rattle.layout.specs.Numbers.{numbers-from}
 use Rattle.layout.proofs.numbers.Statement.{statement}
 use Rattle.layout.proofs.numbers.Tie as tie
 
@@ -43,27 +44,23 @@ shared-slice-read-two-2 c = search needs
 two-requires : tie.Need-two-requires
 two-requires c κs = search needs
 
-add-two-3 : tie.Need-add-two-3
-add-two-3 c = search needs
+add-t21 : tie.Need-add-t21
+add-t21 c = search needs
 
-shared-slice-read-two-3 : tie.Need-shared-slice-read-two-3
-shared-slice-read-two-3 c = search needs
+shared-slice-read-t23 : tie.Need-shared-slice-read-t23
+shared-slice-read-t23 c = search needs
 
-add-two-4 : tie.Need-add-two-4
-add-two-4 c = search needs
+add-t24 : tie.Need-add-t24
+add-t24 c = search needs
 
-shared-slice-read-two-4 : tie.Need-shared-slice-read-two-4
-shared-slice-read-two-4 c = search needs
-
-two-requires-2 : tie.Need-two-requires-2
-two-requires-2 c κs = search needs
+shared-slice-read-t26 : tie.Need-shared-slice-read-t26
+shared-slice-read-t26 c = search needs
 
 returns : tie.Need-returns
 unfolding numbers-from byte two
 returns c =
-    let at = c .before .before .before .before .before .before .before .before .before .before .before .args .at in
+    let at = c .before .before .before .before .before .before .before .before .before .before .args .at in
     let next : at + 4 + 1 ≡ at + 5 = omega arith in
-    let rest : at + 6 + 1 ≡ at + 7 = omega arith in
     cc
 
 pub numbers-spec : {M : Type 1} → statement M
@@ -82,9 +79,8 @@ numbers-spec =
     add-two-2
     shared-slice-read-two-2
     two-requires
-    add-two-3
-    shared-slice-read-two-3
-    add-two-4
-    shared-slice-read-two-4
-    two-requires-2
+    add-t21
+    shared-slice-read-t23
+    add-t24
+    shared-slice-read-t26
     returns)
