@@ -128,10 +128,10 @@ module _ (S : Setting) (fits : Fits (S .n) (S .t) (S .T)) (sender-from-0 value :
   bound-by f k g h = last .detection f k g (le-antisymm (last .range k g .1) h)
 
   pub two-threshold : value ≤ 1
-      → TwoThreshold (S .n) (S .t) (S .T) (S .bad) sender-from-0 value (value-of S sender-from-0 value) (final-flag S sender-from-0 value)
+      → TwoThreshold 2 (S .n) (S .t) (S .T) (S .bad) sender-from-0 value (value-of S sender-from-0 value) (final-flag S sender-from-0 value)
   unfolding decides flags
   two-threshold bit = record {
-    range = λ i gi. (last .range i gi .0, rw (flag-is i) (flag-bit _));
+    range = λ i gi. (omega (arith, last .range i gi .0), rw (flag-is i) (flag-bit _));
     agreement = λ f i j gi gj. let (v, all) = agreed f in all i gi ∙ sym (all j gj);
     no-flag = quiet;
     extended-validity = λ f gs i gi.
@@ -144,7 +144,7 @@ module _ (S : Setting) (fits : Fits (S .n) (S .t) (S .T)) (sender-from-0 value :
 
 -- two good stations that decide differently would have the quiet one raise its flag
 pub unflagged-agree : Unflagged-agree
-unflagged-agree n t T bad s v D F P f k gk quiet i j gi gj = go (eqb (D i) (D j)) refl
+unflagged-agree values n t T bad s v D F P f k gk quiet i j gi gj = go (eqb (D i) (D j)) refl
   where
     go : (same : Bool) → eqb (D i) (D j) ≡ same → D i ≡ D j
     go true e = eqb-true (D i) (D j) e
@@ -152,7 +152,7 @@ unflagged-agree n t T bad s v D F P f k gk quiet i j gi gj = go (eqb (D i) (D j)
 
 -- and so would every station that shows no flag be bad, which are too many
 pub enough-unflagged : Enough-unflagged
-enough-unflagged n t T bad s v D F P f enough i j gi gj = go (eqb (D i) (D j)) refl
+enough-unflagged values n t T bad s v D F P f enough i j gi gj = go (eqb (D i) (D j)) refl
   where
     raised : D i ≢ D j → (k : ℕ) → k < n → (b : Bool) → bad k ≡ b → not (eqb (F k) 1) ≡ true → b ≡ true
     raised differ k h true e quiet = refl
@@ -165,7 +165,7 @@ enough-unflagged n t T bad s v D F P f enough i j gi gj = go (eqb (D i) (D j)) r
 
 -- with f at most t no good station flags, so every station that shows a flag would be bad
 pub enough-flags : Enough-flags
-enough-flags n t T bad s v D F P enough = lt-of-not-le (λ f. omega (arith, f, enough, mono n (λ k. eqb (F k) 1) bad (λ k h. liar f k h (bad k) refl)))
+enough-flags values n t T bad s v D F P enough = lt-of-not-le (λ f. omega (arith, f, enough, mono n (λ k. eqb (F k) 1) bad (λ k h. liar f k h (bad k) refl)))
   where
     liar : faults n bad ≤ t → (k : ℕ) → k < n → (b : Bool) → bad k ≡ b → eqb (F k) 1 ≡ true → b ≡ true
     liar f k h true e flagged = refl

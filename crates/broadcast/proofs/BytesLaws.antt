@@ -93,7 +93,7 @@ module _ (S : Setting) (v g f c : ℕ → ℕ) where
       let q : (outcome-size * i + d) / outcome-size ≡ i = omega arith in
       simp (m, q)
 
-  byte-of : (i d : ℕ) → i < S .n → d < outcome-size
+  pub byte-of : (i d : ℕ) → i < S .n → d < outcome-size
       → at (outcome-bytes S v g f c) (outcome-size * i + d) ≡ (if S .bad i then 255 else pick (v i) (g i) (f i) (c i) d)
   unfolding outcome-bytes
   byte-of i d h l = at-tabulate _ _ _ (omega arith) ∙ outcome-byte-at i d l
@@ -157,10 +157,10 @@ same-consensus n t T bad x y g y′ g′ ey eg C = record {
   detection = λ f i h l j k. rw (ey i h, ey j k) (C .detection f i h (rw (eg i h) at l) j k);
 }
 
-pub same-two-threshold : (n t T : ℕ) (bad : ℕ → Bool) (s v : ℕ) (D F D′ F′ : ℕ → ℕ)
+pub same-two-threshold : (values n t T : ℕ) (bad : ℕ → Bool) (s v : ℕ) (D F D′ F′ : ℕ → ℕ)
     → ((i : ℕ) → Good n bad i → D′ i ≡ D i) → ((i : ℕ) → Good n bad i → F′ i ≡ F i)
-    → TwoThreshold n t T bad s v D F → TwoThreshold n t T bad s v D′ F′
-same-two-threshold n t T bad s v D F D′ F′ d f P = record {
+    → TwoThreshold values n t T bad s v D F → TwoThreshold values n t T bad s v D′ F′
+same-two-threshold values n t T bad s v D F D′ F′ d f P = record {
   range = λ i gi. rw (d i gi, f i gi) (P .range i gi);
   agreement = λ k i j gi gj. rw (d i gi, d j gj) (P .agreement k i j gi gj);
   no-flag = λ k i gi. rw (f i gi) (P .no-flag k i gi);
@@ -184,7 +184,7 @@ graded-consensus-alone n t T marks inputs table fits bits =
 pub two-threshold-bytes : Demand-3
 unfolding outcomes setting
 two-threshold-bytes R fits bit =
-    same-two-threshold (R .n) (R .t) (R .T) (marked (R .marks)) (from-0 (R .sender)) (R .value) _ _ _ _
+    same-two-threshold 2 (R .n) (R .t) (R .T) (marked (R .marks)) (from-0 (R .sender)) (R .value) _ _ _ _
     (good-value (setting-of R) _ _ _ _) (good-flag (setting-of R) _ _ _ _)
     (two-threshold (setting-of R) fits (from-0 (R .sender)) (R .value) bit)
 

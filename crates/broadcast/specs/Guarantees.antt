@@ -27,9 +27,9 @@ pub record GradedConsensus (n t T : ℕ) (bad : ℕ → Bool) (x y g : ℕ → �
 
 -- Demand 3, of a whole run (source 001, Definition 2): station i decides `decides i`, and raises its flag exactly if `flags i` is 1. 001's g = 1, a station
 -- that is sure, is our flag 0. The sentences quoted without a source are the demand's own (docs/AUDIT.md, "What is asked").
-pub record TwoThreshold (n t T : ℕ) (bad : ℕ → Bool) (sender-from-0 value : ℕ) (decides flags : ℕ → ℕ) : Type 0 where
-  -- 001: "decides on an output value y_i ∈ D and a grade value g_i ∈ {0, 1}", where D is 0 and 1 here
-  pub range : (i : ℕ) → Good n bad i → (decides i ≤ 1) × (flags i ≤ 1)
+pub record TwoThreshold (values n t T : ℕ) (bad : ℕ → Bool) (sender-from-0 value : ℕ) (decides flags : ℕ → ℕ) : Type 0 where
+  -- 001: "decides on an output value y_i ∈ D and a grade value g_i ∈ {0, 1}", where D is 0 to `values` − 1: 0 and 1 of a bit
+  pub range : (i : ℕ) → Good n bad i → (decides i < values) × (flags i ≤ 1)
   -- "if f is at most t, all good stations decide one value and none raises its flag"
   pub agreement : faults n bad ≤ t → (i j : ℕ) → Good n bad i → Good n bad j → decides i ≡ decides j
   pub no-flag : faults n bad ≤ t → (i : ℕ) → Good n bad i → flags i ≡ 0

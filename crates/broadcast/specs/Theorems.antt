@@ -219,29 +219,29 @@ Count-without-effect = (c : Setup) (s s′ : State) (row : ℕ → ℕ) → Same
 abbrev pub Demand-3 : Type 0
 Demand-3 =
     (R : Run) → Fits (R .n) (R .t) (R .T) → R .value ≤ 1
-    → TwoThreshold (R .n) (R .t) (R .T) (marked (R .marks)) (from-0 (R .sender)) (R .value) (value-at (outcomes R)) (flag-at (outcomes R))
+    → TwoThreshold 2 (R .n) (R .t) (R .T) (marked (R .marks)) (from-0 (R .sender)) (R .value) (value-at (outcomes R)) (flag-at (outcomes R))
 
 -- f at most T, and one good station that doesn't raise its flag: all good stations decide one value. Said of whatever keeps demand 3, a run or single stations
 abbrev pub Unflagged-agree : Type 0
 Unflagged-agree =
-    (n t T : ℕ) (bad : ℕ → Bool) (sender-from-0 value : ℕ) (decides flags : ℕ → ℕ)
-    → TwoThreshold n t T bad sender-from-0 value decides flags
+    (values n t T : ℕ) (bad : ℕ → Bool) (sender-from-0 value : ℕ) (decides flags : ℕ → ℕ)
+    → TwoThreshold values n t T bad sender-from-0 value decides flags
     → faults n bad ≤ T → (k : ℕ) → Good n bad k → flags k ≢ 1
     → (i j : ℕ) → Good n bad i → Good n bad j → decides i ≡ decides j
 
 -- f at most T, and more than T stations that show no flag, whichever of these are bad: all good stations decide one value
 abbrev pub Enough-unflagged : Type 0
 Enough-unflagged =
-    (n t T : ℕ) (bad : ℕ → Bool) (sender-from-0 value : ℕ) (decides flags : ℕ → ℕ)
-    → TwoThreshold n t T bad sender-from-0 value decides flags
+    (values n t T : ℕ) (bad : ℕ → Bool) (sender-from-0 value : ℕ) (decides flags : ℕ → ℕ)
+    → TwoThreshold values n t T bad sender-from-0 value decides flags
     → faults n bad ≤ T → T < count n (λ k. not (eqb (flags k) 1))
     → (i j : ℕ) → Good n bad i → Good n bad j → decides i ≡ decides j
 
 -- more than t stations that show a flag, whichever of these are bad: f exceeds t
 abbrev pub Enough-flags : Type 0
 Enough-flags =
-    (n t T : ℕ) (bad : ℕ → Bool) (sender-from-0 value : ℕ) (decides flags : ℕ → ℕ)
-    → TwoThreshold n t T bad sender-from-0 value decides flags
+    (values n t T : ℕ) (bad : ℕ → Bool) (sender-from-0 value : ℕ) (decides flags : ℕ → ℕ)
+    → TwoThreshold values n t T bad sender-from-0 value decides flags
     → t < count n (λ k. eqb (flags k) 1) → t < faults n bad
 
 -- f at most T, all good stations decide one value, and more than T stations show v, whichever of these are bad: that value is v
