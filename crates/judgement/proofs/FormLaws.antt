@@ -1,7 +1,7 @@
 -- Laws of the sheet's form: cause 1 lets through exactly the sheets of document 01's form. Assumes nothing.
 use Prim.Native.Nat.{ℕ, _+_, _*_, _<_}
-use mathlib.Core.Path.{_≡_, refl}
-use mathlib.Core.Bool.{Bool, true, false, not, _||_}
+use mathlib.Core.Path.{_≡_}
+use mathlib.Core.Bool.{true, not, or-true}
 use mathlib.Core.List.{List}
 use native.Mathlib.Omega.{arith}
 use lib.Dec.{ltb, eqb}
@@ -9,7 +9,7 @@ use lib.ListN.{length}
 use borrow.Author.Tests.{eqb-true, eq-eqb, ltb-false, lt-ltb, le-ltb, not-false}
 use Rattle.refusal.specs.declared.cause.Verdict.the-variants.{Accepted}
 use Rattle.refusal.proofs.VerdictLaws.{refused-false, accepted-false, neither}
-use Rattle.layout.specs.Layout.{spare, most-records, records}
+use Rattle.layout.specs.Layout.{most-records, records}
 use Rattle.judgement.specs.Judgement.{ill-formed, sheet-form}
 use Rattle.judgement.specs.Theorems.{WellFormed}
 
@@ -25,7 +25,7 @@ module _ (s : List ℕ) where
   form-accepts k w =
       let r = records-are k (w .length-is) in
       let a = eq-eqb (length s) (12 + 8 * k) (w .length-is) in
-      (refused-false _ (rw (r, a, le-ltb most-records k (w .most), eq-eqb (spare s) 0 (w .spare-zero))), r)
+      (refused-false _ (rw (r, a, le-ltb most-records k (w .most))), r)
 
   -- and an accepted one is well formed
   pub form-sound : sheet-form s ≡ Accepted → WellFormed s (records s)
@@ -33,20 +33,13 @@ module _ (s : List ℕ) where
   form-sound e =
       let whole = eqb (length s) (12 + 8 * records s) in
       let many = ltb most-records (records s) in
-      let blank = eqb (spare s) 0 in
-      let (f, c) = neither (not whole || many) (not blank) (accepted-false _ _ e) in
-      let (a, b) = neither (not whole) many f in
+      let (a, b) = neither (not whole) many (accepted-false _ _ e) in
       record {
         length-is = eqb-true (length s) (12 + 8 * records s) (not-false whole a);
         most = ltb-false most-records (records s) b;
-        spare-zero = eqb-true (spare s) 0 (not-false blank c);
       }
 
   -- more records than a sheet may have
   pub form-many : most-records < records s → ill-formed s ≡ true
   unfolding ill-formed
-  form-many h = rw (lt-ltb most-records (records s) h) (go (eqb (length s) (12 + 8 * records s)))
-    where
-      go : (b : Bool) → (not b || true) || not (eqb (spare s) 0) ≡ true
-      go true = refl
-      go false = refl
+  form-many h = rw (lt-ltb most-records (records s) h) (or-true (not (eqb (length s) (12 + 8 * records s))))

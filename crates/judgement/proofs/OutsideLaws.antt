@@ -11,11 +11,11 @@ use borrow.Author.Tests.{ltb-true}
 use Rattle.refusal.specs.Cause.{refused-if}
 use Rattle.refusal.specs.declared.cause.Cause.the-variants.{Duplicate}
 use Rattle.line.proofs.CountLaws.{count-same}
-use Rattle.layout.specs.Layout.{byte, two, four, header, spare, first, records, start, round, from, to, ballot, next, rest}
+use Rattle.layout.specs.Layout.{byte, two, four, header, first, records, start, round, from, to, ballot, next, bit, rest}
 use Rattle.layout.specs.Chain.{Record, reached, after}
 use Rattle.layout.specs.Outside.{SameChain}
 use Rattle.layout.proofs.ChainLaws.{Over, Chained, kind, after-record, after-over}
-use Rattle.judgement.specs.Judgement.{ill-formed, sheet-form, line-and-length, verdict-to-8, misplaced, record-form, unmarked-sender, same-place, taken-before, duplicate, record-verdict, records-verdict}
+use Rattle.judgement.specs.Judgement.{ill-formed, sheet-form, verdict-to-6, verdict-to-8, misplaced, record-form, unmarked-sender, same-place, taken-before, duplicate, record-verdict, records-verdict}
 
 -- the record with index i is the same in two sheets
 abbrev pub SameRecord : List ℕ → List ℕ → ℕ → Type 0
@@ -49,15 +49,19 @@ module _ (s s′ : List ℕ) where
   unfolding next
   next-same i r = two-same i 4 r (omega arith)
 
+  pub bit-same : (i : ℕ) → SameRecord s s′ i → bit s i ≡ bit s′ i
+  unfolding bit
+  bit-same i r = r 6 (omega arith)
+
   rest-same : (i : ℕ) → SameRecord s s′ i → rest s i ≡ rest s′ i
   unfolding rest
-  rest-same i r = two-same i 6 r (omega arith)
+  rest-same i r = r 7 (omega arith)
 
   -- whether two records have one place
   same-place-same : (i j : ℕ) → SameRecord s s′ i → SameRecord s s′ j → same-place s i j ≡ same-place s′ i j
   unfolding same-place
   same-place-same i j p q =
-      rw (round-same i p, round-same j q, from-same i p, from-same j q, to-same i p, to-same j q)
+      rw (round-same i p, round-same j q, from-same i p, from-same j q, to-same i p, to-same j q, bit-same i p, bit-same j q)
 
 module _ (s s′ : List ℕ) (h : SameChain s s′) where
   -- ---- the header
@@ -81,10 +85,10 @@ module _ (s s′ : List ℕ) (h : SameChain s s′) where
   unfolding first two
   first-alike = simp byte-alike
 
-  -- causes 1 to 8
+  -- causes 1, 15 and 2 to 8
   pub opening-alike : (l : ℕ) → verdict-to-8 s l ≡ verdict-to-8 s′ l
-  unfolding verdict-to-8 sheet-form ill-formed line-and-length spare
-  opening-alike l = rw (h .length-same, records-alike, byte-alike 5 refl, header-alike)
+  unfolding verdict-to-8 verdict-to-6 sheet-form ill-formed
+  opening-alike l = rw (h .length-same, records-alike, header-alike)
 
   -- ---- the chain
 
@@ -129,7 +133,7 @@ module _ (s s′ : List ℕ) (h : SameChain s s′) where
     form-alike =
         let i = reached s m in
         let c = same-record in
-        rw (← reached-alike m, header-alike, round-same s s′ i c, from-same s s′ i c, to-same s s′ i c, rest-same s s′ i c)
+        rw (← reached-alike m, header-alike, round-same s s′ i c, from-same s s′ i c, to-same s s′ i c, bit-same s s′ i c, rest-same s s′ i c)
 
     -- cause 12 of it
     unmarked-alike : unmarked-sender s (reached s m) ≡ unmarked-sender s′ (reached s′ m)

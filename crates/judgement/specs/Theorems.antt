@@ -4,16 +4,15 @@ use mathlib.Core.Path.{_≡_}
 use mathlib.Core.List.{List}
 use lib.ListN.{length}
 use Rattle.refusal.specs.declared.cause.Verdict.the-variants.{Accepted}
-use Rattle.layout.specs.Layout.{spare, most-records, records}
+use Rattle.layout.specs.Layout.{most-records, records}
 use Rattle.judgement.specs.Judgement.{sheet-form}
 
 -- ---- the sheet's length
 
--- cause 1 lets a sheet through exactly if its length is 12 + 8k with k from 0 to 4,096 and byte 5 is zero; and then k is the number of records
+-- cause 1 lets a sheet through exactly if its length is 12 + 8k with k from 0 to 4,096; and then k is the number of records
 pub record WellFormed (s : List ℕ) (k : ℕ) : Type 0 where
   pub length-is : length s ≡ 12 + 8 * k
   pub most : k ≤ most-records
-  pub spare-zero : spare s ≡ 0
 
 abbrev pub Form-accepts : Type 0
 Form-accepts = (s : List ℕ) (k : ℕ) → WellFormed s k → (sheet-form s ≡ Accepted) × (records s ≡ k)

@@ -9,7 +9,7 @@ use Rattle.layout.specs.Outside.{SameChain}
 use Rattle.layout.proofs.ChainLaws.{Chained}
 use Rattle.judgement.specs.Judgement.{chain-verdict, sheet-verdict}
 use Rattle.judgement.proofs.OutsideLaws as same
-use Rattle.judgement.proofs.OutsideLaws.{round-same, from-same, to-same, ballot-same}
+use Rattle.judgement.proofs.OutsideLaws.{round-same, from-same, to-same, bit-same, ballot-same}
 use Rattle.sheet.specs.Reading.{place-of, filled, table-of}
 use Rattle.sheet.proofs.FateLaws.{one-chain}
 
@@ -21,7 +21,7 @@ module _ (s s′ : List ℕ) (h : SameChain s s′) where
     place-alike =
         let i = reached s m in
         let c = same.same-record s s′ h m r in
-        rw (← same.reached-alike s s′ h m, same.header-alike s s′ h, round-same s s′ i c, from-same s s′ i c, to-same s s′ i c)
+        rw (← same.reached-alike s s′ h m, same.header-alike s s′ h, round-same s s′ i c, from-same s s′ i c, to-same s s′ i c, bit-same s s′ i c)
 
     -- its ballot
     ballot-alike : ballot s (reached s m) ≡ ballot s′ (reached s′ m)

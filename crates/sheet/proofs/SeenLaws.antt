@@ -1,4 +1,4 @@
--- Laws of the places seen: they tell whether an earlier record of the chain has the same round, from and to. Assumes nothing.
+-- Laws of the places seen: they tell whether an earlier record of the chain has the same round, from, to and bit. Assumes nothing.
 use Prim.Native.Nat.{ℕ, zero, suc, _+_, _/_, _%_, _<_}
 use mathlib.Core.Path.{_≡_, refl, sym, _∙_}
 use mathlib.Core.Bool.{Bool, true, false}
@@ -10,7 +10,7 @@ use lib.Dec.{ltb}
 use lib.Pow.{pow-pos}
 use borrow.Author.Tests.{lt-ltb}
 use lib.ListN.{length, length-set, length-replicate, getD-replicate}
-use Rattle.line.specs.Line.{largest-table}
+use Rattle.line.specs.Width.{largest-tables}
 use Rattle.line.specs.Count.{count}
 use Rattle.line.proofs.MarksLaws.{marked-above}
 use Rattle.refusal.specs.Cause.{refused-if, _or-else_}
@@ -32,18 +32,18 @@ unfolding with-place
 with-length l p = simp length-set
 
 -- no place is seen at first
-unseen-none : (p : ℕ) → p < largest-table → is-seen unseen p ≡ false
+unseen-none : (p : ℕ) → p < largest-tables → is-seen unseen p ≡ false
 unfolding is-seen unseen
-unseen-none p h = let l : p / 32 < 1152 = omega arith in rw (getD-replicate {A = ℕ} 1152 (p / 32) 0 0 l) (marked-above 0 (p % 32) (pow-pos (p % 32)))
+unseen-none p h = let l : p / 32 < 9216 = omega arith in rw (getD-replicate {A = ℕ} 9216 (p / 32) 0 0 l) (marked-above 0 (p % 32) (pow-pos (p % 32)))
 
 module _ (s : List ℕ) where
-  pub seen-length : (m : ℕ) → length (seen s m) ≡ 1152
+  pub seen-length : (m : ℕ) → length (seen s m) ≡ 9216
   unfolding seen unseen
-  seen-length zero = length-replicate {A = ℕ} 1152 0
+  seen-length zero = length-replicate {A = ℕ} 9216 0
   seen-length (suc m) = with-length (seen s m) (place-of s (reached s m)) ∙ seen-length m
 
   -- one record more of the chain, whose place is that of the record with index j or is not
-  seen-step : (m j : ℕ) → place-of s j < largest-table
+  seen-step : (m j : ℕ) → place-of s j < largest-tables
       → (place-of s (reached s m) ≡ place-of s j → same-place s (reached s m) j ≡ true)
       → is-seen (seen s m) (place-of s j) ≡ ltb 0 (count m (λ a. same-place s (reached s a) j))
       → is-seen (seen s (suc m)) (place-of s j) ≡ ltb 0 (count (suc m) (λ a. same-place s (reached s a) j))
@@ -63,7 +63,7 @@ module _ (s : List ℕ) where
       not-same true e n = absurd (n (same-tells s (reached s m) j e))
       not-same false e n = refl
 
-  -- the place of a record with index j is seen exactly if an earlier one has the same round, from and to
+  -- the place of a record with index j is seen exactly if an earlier one has the same round, from, to and bit
   pub seen-tells : (m j : ℕ) → records-verdict s m ≡ Accepted → InPlace s j → SoundHeader (header s)
       → is-seen (seen s m) (place-of s j) ≡ ltb 0 (count m (λ a. same-place s (reached s a) j))
   unfolding seen count records-verdict

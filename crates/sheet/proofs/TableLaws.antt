@@ -1,5 +1,5 @@
 -- Laws of the table of an accepted sheet: each chained ballot in its place, silence everywhere else. Assumes nothing.
-use Prim.Native.Nat.{ℕ, zero, suc, _+_, _-_, _≤_, _<_}
+use Prim.Native.Nat.{ℕ, zero, suc, _+_, _-_, _*_, _≤_, _<_}
 use mathlib.Core.Path.{_≡_, refl, sym}
 use mathlib.Core.Bool.{Bool, true, false}
 use mathlib.Core.Logic.{_≢_, ⊎-elim}
@@ -10,20 +10,20 @@ use native.Mathlib.Omega.{arith}
 use lib.ListN.{length, getD, set, length-set, length-replicate, getD-replicate}
 use lib.Seq.{getD-set-same, getD-set-other}
 use borrow.Author.Tests.{ltb-false, not-false}
-use Rattle.line.specs.Line.{rounds, table-length, place}
+use Rattle.line.specs.Line.{rounds, place}
+use Rattle.line.specs.Width.{bits}
 use Rattle.line.specs.Marks.{marked}
 use Rattle.line.specs.Count.{count}
 use Rattle.refusal.specs.Cause.{_or-else_}
 use Rattle.refusal.specs.declared.cause.Verdict.the-variants.{Accepted}
 use Rattle.line.proofs.CountLaws.{none-passes}
-use Rattle.line.proofs.LineLaws.{place-below, place-from}
 use Rattle.refusal.proofs.VerdictLaws.{never, accepted-false, both-accepted}
-use Rattle.layout.specs.Layout.{header, from, ballot}
+use Rattle.layout.specs.Layout.{header, table-wanted, tables-wanted, from, ballot}
 use Rattle.layout.specs.Chain.{Record, reached, Ends, Fate, leaves, again, ends}
 use Rattle.judgement.specs.Judgement.{misplaced, record-form, unmarked-sender, same-place, taken-before, duplicate, record-verdict, records-verdict, verdict-to-8, chain-verdict, sheet-verdict}
 use Rattle.sheet.specs.Reading.{place-of, filled, table-of}
 use Rattle.layout.proofs.ChainLaws.{before-end}
-use Rattle.sheet.proofs.PlaceLaws.{InPlace, in-place, place-inside, from-told, place-tells}
+use Rattle.sheet.proofs.PlaceLaws.{InPlace, bit-inside, from-told-at, in-place, place-inside, from-told, place-tells}
 
 module _ (s : List ℕ) where
   -- ---- the records of the chain
@@ -60,7 +60,7 @@ module _ (s : List ℕ) where
   unfolding unmarked-sender
   judged-marked a v = not-false _ (accepted-false _ _ (all-three a v .1))
 
-  -- and no earlier record has its round, from and to
+  -- and no earlier record has its round, from, to and bit
   pub judged-new : (a b : ℕ) → a < b → record-verdict s b ≡ Accepted → same-place s (reached s a) (reached s b) ≡ false
   unfolding duplicate taken-before
   judged-new a b h v =
@@ -80,10 +80,10 @@ module _ (s : List ℕ) where
 
   -- ---- the table
 
-  -- as long as a run table
-  pub filled-length : (m : ℕ) → length (filled s m) ≡ table-length (header s .n) (header s .t)
+  -- as long as all bits' tables
+  pub filled-length : (m : ℕ) → length (filled s m) ≡ tables-wanted s
   unfolding filled
-  filled-length zero = length-replicate (table-length (header s .n) (header s .t)) 255
+  filled-length zero = length-replicate (tables-wanted s) 255
   filled-length (suc m) = simp length-set (filled-length m)
 
   -- each of the first m ballots in its place
@@ -103,10 +103,10 @@ module _ (s : List ℕ) where
       (eq-or-lt-of-le (le-of-suc-le-suc h))
 
   -- silence in every other place
-  pub filled-else : (m p : ℕ) → p < table-length (header s .n) (header s .t)
+  pub filled-else : (m p : ℕ) → p < tables-wanted s
       → ((a : ℕ) → a < m → place-of s (reached s a) ≢ p) → getD (filled s m) p 0 ≡ 255
   unfolding filled
-  filled-else zero p h none = getD-replicate (table-length (header s .n) (header s .t)) p 255 0 h
+  filled-else zero p h none = getD-replicate (tables-wanted s) p 255 0 h
   filled-else (suc m) p h none =
       let ne : p ≢ place-of s (reached s m) = λ e. none m (omega arith) (sym e) in
       rw getD-set-other (filled-else m p h (λ a l. none a (omega arith)))
@@ -142,7 +142,7 @@ module _ (s : List ℕ) where
 
   -- silence stands in every other
   pub else-silence : (l : ℕ) (f : Fate s) → sheet-verdict s l f ≡ Accepted
-      → (p : ℕ) → p < table-length (header s .n) (header s .t)
+      → (p : ℕ) → p < tables-wanted s
       → ((a : ℕ) → Record s (reached s a) → place-of s (reached s a) ≢ p) → getD (table-of s f) p 0 ≡ 255
   else-silence l f v p h none =
       let (m, (e, (w, t))) = accepted-ends l f v in
@@ -150,14 +150,14 @@ module _ (s : List ℕ) where
 
   -- and so at every sender that is not marked, since a chained record's is
   pub unmarked-silent : (l : ℕ) (f : Fate s) → sheet-verdict s l f ≡ Accepted
-      → (r i j : ℕ) → 1 ≤ r → r ≤ rounds (header s .t) → i < header s .n → j < header s .n
-      → marked (header s .marks) i ≡ false → getD (table-of s f) (place (header s .n) r i j) 0 ≡ 255
-  unmarked-silent l f v r i j hr hR hi hj u =
+      → (b r i j : ℕ) → b < bits (header s .w) → 1 ≤ r → r ≤ rounds (header s .t) → i < header s .n → j < header s .n
+      → marked (header s .marks) i ≡ false → getD (table-of s f) (b * table-wanted s + place (header s .n) r i j) 0 ≡ 255
+  unmarked-silent l f v b r i j hb hr hR hi hj u =
       let (m, (e, (w, t))) = accepted-ends l f v in
-      else-silence l f v (place (header s .n) r i j) (place-below (header s .n) r i j hr hi hj (rounds (header s .t)) hR)
+      else-silence l f v (b * table-wanted s + place (header s .n) r i j) (bit-inside s b r i j hr hR hi hj hb)
       (λ a q same.
       let x = judged m a w (before-end s m a e q) in
-      let b : from s (reached s a) - 1 ≡ i = cc (from-told s (reached s a) (judged-place a x), place-from (header s .n) r i j hr hi hj) in
+      let y : from s (reached s a) - 1 ≡ i = cc (from-told s (reached s a) (judged-place a x), from-told-at s b r i j hr hR hi hj) in
       let k : marked (header s .marks) (from s (reached s a) - 1) ≡ true = judged-marked a x in
       let z : _≡_ {A = ℕ} 0 1 = cc in
       omega arith)

@@ -1,8 +1,9 @@
 -- The theorems: each statement of specs/Theorems.antt, under its name, and the law that proves it. Assumes nothing.
-use Rattle.sheet.specs.Theorems.{One-fate, Outside-ignored, Ballots-stand, Else-silence, Unmarked-silent}
+use Rattle.sheet.specs.Theorems.{One-fate, Outside-ignored, Ballots-stand, Else-silence, Unmarked-silent, Judged-either-way}
 use Rattle.sheet.proofs.FateLaws as fate
 use Rattle.sheet.proofs.OutsideLaws.{read-alike}
 use Rattle.sheet.proofs.TableLaws as table
+use Rattle.sheet.proofs.PromiseLaws.{either-way}
 
 pub one-fate : One-fate
 one-fate = fate.one-fate
@@ -18,3 +19,6 @@ else-silence = table.else-silence
 
 pub unmarked-silent : Unmarked-silent
 unmarked-silent = table.unmarked-silent
+
+pub judged-either-way : Judged-either-way
+judged-either-way = either-way

@@ -2,14 +2,19 @@
 use Prim.Native.Nat.{ℕ, zero, suc, _+_, _-_, _≤_, _<_}
 use mathlib.Core.Path.{_≡_, refl, sym, ap, _∙_}
 use mathlib.Core.Logic.{_≢_, _⊎_, ⊎-elim}
+use mathlib.Core.Bool.{Bool, true, false}
 use mathlib.Core.List.{List}
-use native.Mathlib.Nat.{eq-or-lt-of-le, lt-of-lt-of-le, mul-le-mul}
+use native.Mathlib.Nat.{eq-or-lt-of-le, lt-of-lt-of-le, mul-le-mul, min-eq-left, min-le-left}
 use native.Mathlib.Numerals.{add-one}
 use native.Mathlib.Omega.{arith}
-use lib.ListN.{length, getD, set, replicate, length-set, length-replicate}
-use lib.Seq.{getD-set-same, getD-set-other}
-use borrow.Author.Tests.{lt-ltb, le-ltb}
-use Rattle.line.specs.Line.{table-length, largest-table}
+use lib.Dec.{leb}
+use lib.Arith.{digits-lt}
+use lib.ListN.{length, getD, take, drop, set, replicate, length-take, length-drop, length-set, length-replicate, getD-replicate}
+use lib.Seq.{getD-set-same, getD-set-other, set-out, take-set-le, take-set-lt, drop-set-lt, drop-set-add, getD-take, getD-drop, ext-getD}
+use borrow.Author.Tests.{lt-ltb, le-ltb, le-leb, lt-leb}
+use Rattle.line.specs.Count.{if_then_else_}
+use Rattle.line.specs.Line.{rounds}
+use Rattle.line.specs.Width.{largest-tables}
 use Rattle.line.proofs.LineLaws.{place-below}
 use Rattle.line.proofs.CountLaws.{le-or-lt}
 use Rattle.refusal.specs.Cause.{_or-else_}
@@ -17,17 +22,17 @@ use Rattle.refusal.specs.declared.cause.Cause.{Cause}
 use Rattle.refusal.specs.declared.cause.Cause.the-variants.{ChainLeaves, ChainRepeats}
 use Rattle.refusal.specs.declared.cause.Verdict.{Verdict}
 use Rattle.refusal.specs.declared.cause.Verdict.the-variants.{Accepted, Refused}
-use Rattle.layout.specs.Layout.{header, records, ballot, next, first}
+use Rattle.layout.specs.Layout.{header, tables-wanted, records, ballot, next, first}
 use Rattle.layout.specs.Chain.{Record, reached, Fate, leaves, again, ends}
 use Rattle.layout.specs.Numbers.{record-at}
 use Rattle.layout.specs.declared.Record as numbers
-use Rattle.layout.proofs.LayoutLaws.{round-is, from-is, to-is, ballot-is, next-is}
+use Rattle.layout.proofs.LayoutLaws.{round-is, from-is, to-is, bit-is, ballot-is, next-is}
 use Rattle.layout.proofs.ChainLaws.{Over, Chained, not-both, goes-on, one-more, inside-again}
 use Rattle.judgement.specs.Judgement.{record-verdict, records-verdict, chain-verdict}
-use Rattle.judgement.proofs.RangeLaws.{InRange, judged-by-numbers}
+use Rattle.judgement.proofs.RangeLaws.{InNumbers, judged-by-numbers}
 use Rattle.sheet.specs.Reading.{place-of, filled}
 use Rattle.sheet.specs.Loops as loops
-use Rattle.sheet.specs.Loops.{Lined, place-by, record-by, Taken, walked-by, Hit, Kept, Whole, Told, Fated, laid}
+use Rattle.sheet.specs.Loops.{Lined, place-by, record-by, Taken, walked-by, Hit, Kept, Whole, Told, Fated, Inside, put-at, laid}
 use Rattle.sheet.specs.declared.fate.Walked.{Walked}
 use Rattle.sheet.specs.declared.fate.Walked.the-variants as walked
 use Rattle.sheet.proofs.PlaceLaws.{place-inside}
@@ -43,12 +48,12 @@ or-else-joins (Refused d) b c = refl
 -- ---- what is handed on
 
 -- the place of a record whose numbers are in their ranges
-pub place-most : (n last : ℕ) (r : numbers.Record) → InRange n last (r .round) (r .from) (r .to) (r .rest) → n ≤ 32 → last ≤ 36 → place-by n r < largest-table
+pub place-most : (n last bits : ℕ) (r : numbers.Record) → InNumbers n last bits r → n ≤ 32 → last ≤ 36 → bits ≤ 8 → place-by n last r < largest-tables
 unfolding place-by
-place-most n last r w few short =
-    lt-of-lt-of-le
-    (place-below n (r .round) (r .from - 1) (r .to - 1) (w .round-low) (omega (arith, w .from-low, w .from-high)) (omega (arith, w .to-low, w .to-high)) last (w .round-high))
-    (mul-le-mul (mul-le-mul short few) few)
+place-most n last bits r w few short narrow =
+    let inside =
+    place-below n (r .round) (r .from - 1) (r .to - 1) (w .round-low) (omega (arith, w .from-low, w .from-high)) (omega (arith, w .to-low, w .to-high)) last (w .round-high) in
+    lt-of-lt-of-le (digits-lt (w .bit-below) inside) (mul-le-mul narrow (mul-le-mul (mul-le-mul short few) few))
 
 -- a table of silence is as long as was asked for
 pub silent-length : (table : List ℕ) (size : ℕ) → table ≡ replicate size 255 → length table ≡ size
@@ -57,31 +62,84 @@ silent-length table size e = rw e (length-replicate size 255)
 pub silent-still : (table : List ℕ) (size : ℕ) → table ≡ replicate size 255 → table ≡ replicate (length table) 255
 silent-still table size e = e ∙ ap (λ (n : ℕ). replicate n 255) (sym (silent-length table size e))
 
--- the table's length, and one ballot more in its place
-pub laid-length : (places ballots : List ℕ) (size m : ℕ) → length (laid places ballots size m) ≡ size
-unfolding laid
-laid-length places ballots size zero = length-replicate size 255
-laid-length places ballots size (suc m) = simp length-set (laid-length places ballots size m)
+-- ---- the part of the tables
 
-pub laid-turn : (places ballots table : List ℕ) (size a : ℕ) → table ≡ laid places ballots size a
-    → set table (getD places a 0) (getD ballots a 0) ≡ laid places ballots size (a + 1)
+-- its length stays, and one ballot more is put into it
+pub put-length : (table : List ℕ) (start p ballot : ℕ) → length (put-at table start p ballot) ≡ length table
+unfolding put-at
+put-length table start p ballot = go (leb start p)
+  where
+    go : (b : Bool) → length (if b then set table (p - start) ballot else table) ≡ length table
+    go true = length-set table (p - start) ballot
+    go false = refl
+
+pub laid-length : (places ballots : List ℕ) (start size m : ℕ) → length (laid places ballots start size m) ≡ size
 unfolding laid
-laid-turn places ballots table size a e = rw (add-one, e)
+laid-length places ballots start size zero = length-replicate size 255
+laid-length places ballots start size (suc m) = put-length _ _ _ _ ∙ laid-length places ballots start size m
+
+pub laid-turn : (places ballots table : List ℕ) (start size a : ℕ) → table ≡ laid places ballots start size a
+    → put-at table start (getD places a 0) (getD ballots a 0) ≡ laid places ballots start size (a + 1)
+unfolding laid
+laid-turn places ballots table start size a e = rw (add-one, e)
+
+-- into all of them it is put at its place
+pub put-whole : (table : List ℕ) (p ballot : ℕ) → put-at table 0 p ballot ≡ set table p ballot
+unfolding put-at
+put-whole table p ballot =
+    let e : p - 0 ≡ p = omega arith in rw (le-leb 0 p (omega arith), e)
+
+-- silence in all tables is silence in a part
+silent-part : (start size all : ℕ) → start + size ≤ all → take size (drop start (replicate {A = ℕ} all 255)) ≡ replicate {A = ℕ} size 255
+silent-part start size all h =
+    let tables : List ℕ = replicate all 255 in
+    let part : List ℕ = replicate size 255 in
+    let long : length (take size (drop start tables)) ≡ size =
+    simp (length-take, length-drop, length-replicate) (min-eq-left (omega arith)) in
+    ext-getD 0 (take size (drop start tables)) part (long ∙ sym (length-replicate {A = ℕ} size 255))
+    (λ k l.
+    let g : k < size = rw long at l in
+    getD-take size (drop start tables) k 0 g
+    ∙ getD-drop start tables k 0
+    ∙ getD-replicate {A = ℕ} all (start + k) 255 0 (omega arith)
+    ∙ sym (getD-replicate {A = ℕ} size k 255 0 g))
+
+-- a ballot put into a part is one put into all tables
+put-part : (tables : List ℕ) (start size p ballot : ℕ)
+    → put-at (take size (drop start tables)) start p ballot ≡ take size (drop start (set tables p ballot))
+unfolding put-at
+put-part tables start size p ballot =
+    ⊎-elim
+    (λ (h : start ≤ p).
+    let e : p ≡ start + (p - start) = omega arith in
+    rw (le-leb start p h)
+    (inside (p - start) ∙ ap (λ (q : ℕ). take size (drop start (set tables q ballot))) (sym e)))
+    (λ (h : p < start). rw (lt-leb start p h, drop-set-lt start tables p ballot h))
+    (le-or-lt start p)
+  where
+    inside : (q : ℕ) → set (take size (drop start tables)) q ballot ≡ take size (drop start (set tables (start + q) ballot))
+    inside q =
+        ⊎-elim
+        (λ (h : size ≤ q).
+        let short : length (take size (drop start tables)) ≤ q = rw length-take (omega (arith, min-le-left size (length (drop start tables)))) in
+        rw (drop-set-add start tables q ballot, take-set-le size (drop start tables) q ballot h) (set-out _ q ballot short))
+        (λ (h : q < size). rw (drop-set-add start tables q ballot, take-set-lt size (drop start tables) q ballot h))
+        (le-or-lt size q)
 
 module _ (s : List ℕ) where
   -- ---- one record
 
   -- a record's place by its numbers
-  pub place-same : (i : ℕ) → Record s i → place-by (header s .n) (record-at s i) ≡ place-of s i
+  pub place-same : (i : ℕ) → Record s i → place-by (header s .n) (rounds (header s .t)) (record-at s i) ≡ place-of s i
   unfolding place-by place-of
-  place-same i r = rw (round-is s i r, from-is s i r, to-is s i r)
+  place-same i r = rw (round-is s i r, from-is s i r, to-is s i r, bit-is s i r)
 
-  module _ (n last marks : ℕ) (line : Lined s n last marks) (a i : ℕ) (r : numbers.Record) (q : i ≡ reached s a) (here : Record s i) (is : r ≡ record-at s i) where
+  module _ (n last bits marks : ℕ) (line : Lined s n last bits marks) (a i : ℕ) (r : numbers.Record) (q : i ≡ reached s a) (here : Record s i) (is : r ≡ record-at s i) where
     -- the record at position a judged by its numbers and the places seen
-    pub record-is : (places : List ℕ) → places ≡ loops.seen s a → records-verdict s a ≡ Accepted → record-by n last marks r places ≡ record-verdict s a
+    pub record-is : (places : List ℕ) → places ≡ loops.seen s a → records-verdict s a ≡ Accepted → record-by n last bits marks r places ≡ record-verdict s a
     unfolding record-by
     record-is places e v =
-        rw (is, e, line .n-is, line .last-is, line .marks-are, judged-by-numbers s i here, place-same i here, or-else-joins, q) (judged-by-seen s a v (line .sound))
+        rw (is, e, line .n-is, line .last-is, line .bits-are, line .marks-are, judged-by-numbers s i here, place-same i here, or-else-joins, q) (judged-by-seen s a v (line .sound))
 
   -- one verdict more
   verdict-pass : (a : ℕ) → records-verdict s a ≡ Accepted → record-verdict s a ≡ Accepted → records-verdict s (a + 1) ≡ Accepted
@@ -134,11 +192,11 @@ module _ (s : List ℕ) where
       (rw getD-set-other (k a h .0), rw getD-set-other (k a h .1)))
       (eq-or-lt-of-le le)
 
-  module _ (n last marks : ℕ) (line : Lined s n last marks) (m i : ℕ) (seen₀ places₀ ballots₀ : List ℕ) (g : Going m i seen₀ places₀ ballots₀)
+  module _ (n last bits marks : ℕ) (line : Lined s n last bits marks) (m i : ℕ) (seen₀ places₀ ballots₀ : List ℕ) (g : Going m i seen₀ places₀ ballots₀)
       (here : Record s i) (room : m < records s) (r : numbers.Record) (is : r ≡ record-at s i) where
     -- its place, its ballot and its next index
-    place-here : place-by n r ≡ place-of s (reached s m)
-    place-here = rw (is, line .n-is) (place-same i here ∙ ap (place-of s) (g .at))
+    place-here : place-by n last r ≡ place-of s (reached s m)
+    place-here = rw (is, line .n-is, line .last-is) (place-same i here ∙ ap (place-of s) (g .at))
 
     ballot-here : r .ballot ≡ ballot s (reached s m)
     ballot-here = rw is (ballot-is s i here ∙ ap (ballot s) (g .at))
@@ -149,9 +207,9 @@ module _ (s : List ℕ) where
     chained-here : Chained s (m + 1)
     chained-here = one-more s m (g .chained) (rw (← g .at) here)
 
-    module _ (seen₁ places₁ ballots₁ : List ℕ) (v : Verdict) (t : Taken n last marks r m seen₀ places₀ ballots₀ seen₁ places₁ ballots₁ v) where
+    module _ (seen₁ places₁ ballots₁ : List ℕ) (v : Verdict) (t : Taken n last bits marks r m seen₀ places₀ ballots₀ seen₁ places₁ ballots₁ v) where
       verdict-here : record-verdict s m ≡ v
-      verdict-here = sym (record-is n last marks line m i r (g .at) here is seen₀ (g .seen-is) (g .judged-all)) ∙ sym (t .verdict-is)
+      verdict-here = sym (record-is n last bits marks line m i r (g .at) here is seen₀ (g .seen-is) (g .judged-all)) ∙ sym (t .verdict-is)
 
       -- one record more that passes
       pub going-turn : v ≡ Accepted → Going (m + 1) (r .next) seen₁ places₁ ballots₁
@@ -231,15 +289,16 @@ module _ (s : List ℕ) where
 
   -- ---- the table
 
-  -- what is kept fills the table
-  pub laid-filled : (places ballots : List ℕ) (size m : ℕ) → size ≡ table-length (header s .n) (header s .t) → Kept s m places ballots
-      → laid places ballots size m ≡ filled s m
+  -- what is kept fills the part
+  pub laid-filled : (places ballots : List ℕ) (start size m : ℕ) → start + size ≤ tables-wanted s → Kept s m places ballots
+      → laid places ballots start size m ≡ take size (drop start (filled s m))
   unfolding laid filled
-  laid-filled places ballots size zero e k = rw e
-  laid-filled places ballots size (suc m) e k =
+  laid-filled places ballots start size zero h k = sym (silent-part start size (tables-wanted s) h)
+  laid-filled places ballots start size (suc m) h k =
       let (p, b) = k m (omega arith) in
-      rw (laid-filled places ballots size m e (λ a l. k a (omega arith)), p, b)
+      rw (laid-filled places ballots start size m h (λ a l. k a (omega arith)), p, b)
+      (put-part (filled s m) start size (place-of s (reached s m)) (ballot s (reached s m)))
 
-  -- each of its places is in the table
-  pub kept-inside : (m : ℕ) (places ballots : List ℕ) → Whole s m places ballots → (a : ℕ) → a < m → getD places a 0 < table-length (header s .n) (header s .t)
+  -- each of its places is in the tables
+  pub kept-inside : (m : ℕ) (places ballots : List ℕ) → Whole s m places ballots → Inside places m (tables-wanted s)
   kept-inside m places ballots w a l = rw (w .kept a l .0) (place-inside s (reached s a) (judged-place s a (judged s m a (w .judged) l)))

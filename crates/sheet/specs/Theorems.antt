@@ -1,17 +1,18 @@
 -- What is shown of the definitions. Each statement has a name here, and proofs/Theorems.antt has the law that proves it.
-use Prim.Native.Nat.{ℕ, _≤_, _<_}
+use Prim.Native.Nat.{ℕ, _+_, _*_, _≤_, _<_}
 use mathlib.Core.Path.{_≡_}
 use mathlib.Core.Bool.{false}
 use mathlib.Core.Logic.{_≢_}
 use mathlib.Core.List.{List}
 use lib.ListN.{getD}
-use Rattle.line.specs.Line.{rounds, table-length, place}
+use Rattle.line.specs.Line.{rounds, place}
+use Rattle.line.specs.Width.{bits}
 use Rattle.line.specs.Marks.{marked}
 use Rattle.refusal.specs.declared.cause.Verdict.the-variants.{Accepted}
-use Rattle.layout.specs.Layout.{header, ballot}
+use Rattle.layout.specs.Layout.{header, table-wanted, tables-wanted, ballot}
 use Rattle.layout.specs.Chain.{Record, reached, Fate}
 use Rattle.layout.specs.Outside.{SameChain}
-use Rattle.judgement.specs.Judgement.{sheet-verdict}
+use Rattle.judgement.specs.Judgement.{sheet-verdict, bit-verdict}
 use Rattle.sheet.specs.Reading.{place-of, table-of}
 
 -- ---- the chain
@@ -40,12 +41,19 @@ Ballots-stand =
 abbrev pub Else-silence : Type 0
 Else-silence =
     (s : List ℕ) (l : ℕ) (f : Fate s) → sheet-verdict s l f ≡ Accepted
-    → (p : ℕ) → p < table-length (header s .n) (header s .t)
+    → (p : ℕ) → p < tables-wanted s
     → ((a : ℕ) → Record s (reached s a) → place-of s (reached s a) ≢ p) → getD (table-of s f) p 0 ≡ 255
 
--- and so at every sender that is not marked
+-- and so at every sender that is not marked, in each bit's table
 abbrev pub Unmarked-silent : Type 0
 Unmarked-silent =
     (s : List ℕ) (l : ℕ) (f : Fate s) → sheet-verdict s l f ≡ Accepted
-    → (r i j : ℕ) → 1 ≤ r → r ≤ rounds (header s .t) → i < header s .n → j < header s .n
-    → marked (header s .marks) i ≡ false → getD (table-of s f) (place (header s .n) r i j) 0 ≡ 255
+    → (b r i j : ℕ) → b < bits (header s .w) → 1 ≤ r → r ≤ rounds (header s .t) → i < header s .n → j < header s .n
+    → marked (header s .marks) i ≡ false → getD (table-of s f) (b * table-wanted s + place (header s .n) r i j) 0 ≡ 255
+
+-- ---- one bit alone (request 5)
+
+-- a sheet is accepted or refused by the same cause, whether all bits are read or one of them, each into a buffer of its own length
+abbrev pub Judged-either-way : Type 0
+Judged-either-way =
+    (s : List ℕ) (f : Fate s) (b : ℕ) → b < bits (header s .w) → bit-verdict s b (table-wanted s) f ≡ sheet-verdict s (tables-wanted s) f

@@ -1,12 +1,9 @@
-// The reader of run sheets: a sheet of any bytes and a lent table of any length give the header's numbers and the table, or the one refusal.
-ghost use mathlib.Core.Path.{_≡_};
+// The reader of run sheets: a sheet of any bytes and a lent buffer of any length give the header's numbers and the tables, or the one refusal.
 ghost use lib.ListN.{length};
-ghost use Rattle.refusal.specs.declared.cause.Verdict.the-variants.{Accepted};
-ghost use Rattle.judgement.specs.Judgement.{verdict-to-8};
-ghost use Rattle.sheet.specs.Reading.{Reads};
+ghost use Rattle.sheet.specs.Reading.{Reads, ReadsBit};
+ghost use Rattle.sheet.specs.Loops.{Opened, ReadsPart};
 use crate::fate::Walked;
 use layout::Header;
-use line::Line;
 use refusal::cause::Cause;
 use refusal::cause::Verdict;
 
@@ -21,44 +18,47 @@ pub enum Reading {
     Refused(Cause),
 }
 
-// A sheet that causes 1 to 8 let through: the whole chain is walked and each of its records judged before the first byte is written.
-fn read_chain(sheet: &[u8], table: &mut [u8]) -> Reading
-    requires { ⌜ verdict-to-8 (now sheet) (length (now table)) ≡ Accepted ⌝ }
-    ensures { λ r. ⌜ Reads (now (sheet .entry)) (now (table .entry)) (now (table .exit)) r ⌝ }
+// A sheet that the causes before the chain's let through: the whole chain is walked and each of its records judged before the first byte is written. The table
+// is the part of all bits' tables that begins at the place `start`; where it is all of them, every place is in it.
+fn read_chain(sheet: &[u8], start: usize, table: &mut [u8]) -> Reading
+    requires { ⌜ Opened (now sheet) start (length (now table)) ⌝ }
+    ensures { λ r. ⌜ ReadsPart (now (sheet .entry)) start (now (table .entry)) (now (table .exit)) r ⌝ }
 {
     let header = layout::header_of(sheet);
-    let line = Line {
-        n: header.n,
-        t: header.t,
-        upper: header.upper,
-    };
-    let last = line.rounds() as u8;
-    let mut places = [0u16; walk::RECORDS];
+    let mut places = [0u32; walk::RECORDS];
     let mut ballots = [0u8; walk::RECORDS];
-    let walked = walk::walk(
-        sheet,
-        header.n,
-        last,
-        header.marks,
-        &mut places,
-        &mut ballots,
-    );
+    let walked = walk::walk(sheet, header, &mut places, &mut ballots);
     match walked {
         Walked::Accepted(m) => {
-            fill::fill(&places, &ballots, m, table);
+            if table.len() == layout::tables_len(sheet) {
+                fill::fill(&places, &ballots, m, table);
+            } else {
+                fill::fill_part(&places, &ballots, m, start, table);
+            }
             Reading::Accepted(header)
         }
         Walked::Refused(c) => Reading::Refused(c),
     }
 }
 
-// Reads a run sheet into a run table.
+// Reads a run sheet into the run tables of all bits.
 pub fn read(sheet: &[u8], table: &mut [u8]) -> Reading
     ensures { λ r. ⌜ Reads (now (sheet .entry)) (now (table .entry)) (now (table .exit)) r ⌝ }
 {
     let verdict = judgement::to_8(sheet, table.len());
     match verdict {
-        Verdict::Accepted => read_chain(sheet, table),
+        Verdict::Accepted => read_chain(sheet, 0, table),
+        Verdict::Refused(c) => Reading::Refused(c),
+    }
+}
+
+// Reads one bit's run table of a run sheet, all of which is judged.
+pub fn read_bit(sheet: &[u8], b: u8, table: &mut [u8]) -> Reading
+    ensures { λ r. ⌜ ReadsBit (now (sheet .entry)) b (now (table .entry)) (now (table .exit)) r ⌝ }
+{
+    let verdict = judgement::bit_to_8(sheet, b, table.len());
+    match verdict {
+        Verdict::Accepted => read_chain(sheet, (b as usize) * table.len(), table),
         Verdict::Refused(c) => Reading::Refused(c),
     }
 }

@@ -15,7 +15,7 @@ unfolding numbers-verdict
 returns c = judged (rw (refused-true RecordForm (sym (c .before .out-of-place .ensures) ∙ c .if1 .taken)))
 
 unmarked-requires : tie.Need-unmarked-requires
-unmarked-requires c κs = numbers-in-range _ _ _ (sym (c .before .out-of-place .ensures) ∙ c .if1 .left) .from-low
+unmarked-requires c κs = numbers-in-range _ _ _ _ (sym (c .before .out-of-place .ensures) ∙ c .if1 .left) .from-low
 
 refused-if-requires : tie.Need-refused-if-requires
 refused-if-requires c κs = search needs

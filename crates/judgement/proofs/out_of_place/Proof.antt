@@ -1,5 +1,8 @@
+-- `out_of_place` meets its contract: one test after the other.
 use borrow.Author.Needs.{needs}
+use native.Mathlib.Omega.{arith}
 use Rattle.judgement.specs.Numbers.{out-of-place}
+use Rattle.judgement.proofs.RangeLaws.{two-bytes}
 use Rattle.judgement.proofs.out_of_place.Statement.{statement}
 use Rattle.judgement.proofs.out_of_place.Tie as tie
 
@@ -25,10 +28,24 @@ unfolding out-of-place
 returns-3 c =
     rw (← c .before .before .before .before .before .outside .ensures, ← c .before .before .before .outside2 .ensures, ← c .before .outside3 .ensures, c .before .before .before .before .if1 .left, c .before .before .if2 .left, c .if3 .taken)
 
+cast-result : tie.Need-cast-result
+cast-result c = search needs
+
+cast-result-2 : tie.Need-cast-result-2
+cast-result-2 c = search needs
+
+mul-result : tie.Need-mul-result
+mul-result c = search needs
+
+add-result : tie.Need-add-result
+add-result c = search needs
+
 returns-4 : tie.Need-returns-4
 unfolding out-of-place
 returns-4 c =
-    rw (← c .before .before .before .before .before .before .outside .ensures, ← c .before .before .before .before .outside2 .ensures, ← c .before .before .outside3 .ensures, c .before .before .before .before .before .if1 .left, c .before .before .before .if2 .left, c .before .if3 .left)
+    let a = c .before .before .before .before .before .before .before .before .args in
+    rw (← c .before .before .before .before .before .before .before .outside .ensures, ← c .before .before .before .before .before .outside2 .ensures, ← c .before .before .before .outside3 .ensures, c .before .before .before .before .before .before .if1 .left, c .before .before .before .before .if2 .left, c .before .before .if3 .left)
+    (two-bytes (a .bits) (a .«record» .bit) (a .«record» .rest) (omega arith))
 
 pub out-of-place-spec : {M : Type 1} → statement M
 out-of-place-spec =
@@ -40,4 +57,8 @@ out-of-place-spec =
     returns-2
     outside-requires-3
     returns-3
+    cast-result
+    cast-result-2
+    mul-result
+    add-result
     returns-4)

@@ -1,26 +1,27 @@
--- `to_8` meets its contract: cause 1 comes first.
+-- `to_8` meets its contract: the causes are joined in their order.
 use borrow.Author.Needs.{needs}
-use mathlib.Core.Path.{sym, _∙_}
-use Rattle.refusal.proofs.VerdictLaws.{judged, refused-true, refused-false}
-use Rattle.refusal.specs.declared.cause.Cause.the-variants.{SheetForm}
-use Rattle.judgement.specs.Judgement.{verdict-to-8, sheet-form}
+use Rattle.refusal.proofs.VerdictLaws.{judged}
+use Rattle.judgement.specs.Judgement.{verdict-to-8}
 use Rattle.judgement.proofs.to_8.Statement.{statement}
 use Rattle.judgement.proofs.to_8.Tie as tie
 
-ill-formed-requires : tie.Need-ill-formed-requires
-ill-formed-requires c κs = search needs
+to-6-requires : tie.Need-to-6-requires
+to-6-requires c κs = search needs
+
+tables-len-requires : tie.Need-tables-len-requires
+tables-len-requires c κs = search needs
+
+exact-length-requires : tie.Need-exact-length-requires
+exact-length-requires c κs = search needs
+
+or-else-requires : tie.Need-or-else-requires
+or-else-requires c κs = search needs
 
 returns : tie.Need-returns
-unfolding verdict-to-8 sheet-form
-returns c = judged (rw (refused-true SheetForm (sym (c .before .ill-formed .ensures) ∙ c .if1 .taken)))
-
-line-and-length-requires : tie.Need-line-and-length-requires
-line-and-length-requires c κs = search needs
-
-returns-2 : tie.Need-returns-2
-unfolding verdict-to-8 sheet-form
-returns-2 c =
-    judged (rw (refused-false SheetForm (sym (c .before .before .ill-formed .ensures) ∙ c .before .if1 .left)) (c .line-and-length .ensures))
+unfolding verdict-to-8
+returns c = judged cc
 
 pub to-8-spec : {M : Type 1} → statement M
-to-8-spec = tie.close (tie.spec ill-formed-requires returns line-and-length-requires returns-2)
+to-8-spec =
+    tie.close
+    (tie.spec to-6-requires tables-len-requires exact-length-requires or-else-requires returns)

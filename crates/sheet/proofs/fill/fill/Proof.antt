@@ -5,12 +5,12 @@ use Prim.Native.Nat.{_-_, _≤_}
 use mathlib.Core.Path.{_≡_, _∙_}
 use lib.ListN.{length}
 use Rattle.sheet.specs.Loops.{laid}
-use Rattle.sheet.proofs.WalkLaws.{silent-length, silent-still, laid-length, laid-turn}
+use Rattle.sheet.proofs.WalkLaws.{silent-length, silent-still, laid-length, laid-turn, put-whole}
 use Rattle.sheet.proofs.fill.fill.Statement.{statement}
 use Rattle.sheet.proofs.fill.fill.Tie as tie
 
 abbrev Inv-loop : tie.InvT-loop
-Inv-loop places ballots m table₀ a₀ table a = (a ≤ m) × (table ≡ laid places ballots (length table₀) a)
+Inv-loop places ballots m table₀ a₀ table a = (a ≤ m) × (table ≡ laid places ballots 0 (length table₀) a)
 
 abbrev μ-loop : tie.MeasureT-loop
 μ-loop places ballots m table₀ a₀ table a = m - a
@@ -23,21 +23,21 @@ unfolding laid
 loop-holds c = (omega arith, silent-still _ (length (c .before .before .before .before .before .args .table .now)) (c .before .before .silence .ensures))
 
 mul-wide : tie.Need-mul-wide Inv-loop μ-loop
-mul-wide c = omega (arith, c .before .before .before .before .before .before .before .pre .position)
+mul-wide c = omega (arith, c .before .before .before .before .before .before .before .pre .0 .position)
 
 element-copy-out-wide : tie.Need-element-copy-out-wide Inv-loop μ-loop
-element-copy-out-wide c = let p = c .before .before .before .before .before .before .before .pre in omega (arith, p .position, p .places-length)
+element-copy-out-wide c = let p = c .before .before .before .before .before .before .before .pre .0 in omega (arith, p .position, p .places-length)
 
 wide-requires : tie.Need-wide-requires Inv-loop μ-loop
 wide-requires c κs = search needs
 
 element-copy-out-table : tie.Need-element-copy-out-table Inv-loop μ-loop
-element-copy-out-table c = let p = c .before .before .before .before .before .before .before .before .before .pre in omega (arith, p .position, p .ballots-length)
+element-copy-out-table c = let p = c .before .before .before .before .before .before .before .before .before .pre .0 in omega (arith, p .position, p .ballots-length)
 
 slice-write-table : tie.Need-slice-write-table Inv-loop μ-loop
 slice-write-table c =
-    let p = c .before .before .before .before .before .before .before .before .before .before .pre in
-    rw (c .before .wide .ensures, c .before .before .before .before .loop .inv .1, laid-length, silent-length _ (length (c .before .before .before .before .before .before .before .before .before .before .args .table .now)) (c .before .before .before .before .before .before .before .silence .ensures)) (p .inside _ (omega arith))
+    let p = c .before .before .before .before .before .before .before .before .before .before .pre .1 in
+    rw (c .before .wide .ensures, c .before .before .before .before .loop .inv .1, laid-length, silent-length _ (length (c .before .before .before .before .before .before .before .before .before .before .args .table .now)) (c .before .before .before .before .before .before .before .silence .ensures)) (p _ (omega arith))
 
 add-a : tie.Need-add-a Inv-loop μ-loop
 add-a c = omega arith
@@ -47,11 +47,11 @@ loop-less c = omega arith
 
 loop-again : tie.Need-loop-again Inv-loop μ-loop
 loop-again c =
-    let turn = laid-turn _ _ _ _ _ (c .before .before .before .before .loop .inv .1) in
-    (omega arith, rw (c .before .wide .ensures) turn)
+    let turn = laid-turn _ _ _ _ _ _ (c .before .before .before .before .loop .inv .1) in
+    (omega arith, rw (c .before .wide .ensures) (rw put-whole at turn))
 
 same-length : tie.Need-same-length Inv-loop μ-loop
-same-length c = rw (c .before .loop .inv .1) (laid-length _ _ _ _ ∙ silent-length _ (length (c .before .before .before .before .before .before .before .args .table .now)) (c .before .before .before .before .silence .ensures))
+same-length c = rw (c .before .loop .inv .1) (laid-length _ _ _ _ _ ∙ silent-length _ (length (c .before .before .before .before .before .before .before .args .table .now)) (c .before .before .before .before .silence .ensures))
 
 returns : tie.Need-returns Inv-loop μ-loop
 returns c =

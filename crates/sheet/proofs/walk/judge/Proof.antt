@@ -36,18 +36,21 @@ cast-place-2 c = search needs
 cast-place-3 : tie.Need-cast-place-3
 cast-place-3 c = search needs
 
+cast-place-4 : tie.Need-cast-place-4
+cast-place-4 c = search needs
+
 place-requires : tie.Need-place-requires
 place-requires c κs =
-    let w = accepted-in-range _ _ _ _ (sym (c .before .before .before .before .before .numbers-verdict .ensures .answer-is) ∙ c .before .before .before .enum-told .given .1) in
+    let w = accepted-in-range _ _ _ _ _ _ (c .before .before .before .before .before .before .numbers-verdict .ensures .answer-is) (c .before .before .before .before .enum-told .given .1) in
     omega (arith, w .round-low, w .from-low, w .to-low)
 
 cast-places : tie.Need-cast-places
 unfolding place-by
 cast-places c =
-    let a = c .before .before .before .before .before .before .before .args in
-    let p = c .before .before .before .before .before .before .before .pre in
-    let w = accepted-in-range _ _ _ _ (sym (c .before .before .before .before .before .before .numbers-verdict .ensures .answer-is) ∙ c .before .before .before .before .enum-told .given .1) in
-    omega (arith, c .place .ensures, place-most (a .n) (a .last) (a .«record») w (p .few) (p .short))
+    let a = c .before .before .before .before .before .before .before .before .args in
+    let p = c .before .before .before .before .before .before .before .before .pre in
+    let w = accepted-in-range _ _ _ _ _ _ (c .before .before .before .before .before .before .before .numbers-verdict .ensures .answer-is) (c .before .before .before .before .before .enum-told .given .1) in
+    omega (arith, c .place .ensures, place-most (a .n) (a .last) (a .bits) (a .«record») w (p .few) (p .short) (p .narrow))
 
 mul-places : tie.Need-mul-places
 mul-places c = search needs
@@ -61,15 +64,15 @@ element-write-ballots c = search needs
 look-requires : tie.Need-look-requires
 unfolding place-by
 look-requires c κs =
-    let a = c .before .before .before .before .before .before .before .before .args in
-    let p = c .before .before .before .before .before .before .before .before .pre in
-    let w = accepted-in-range _ _ _ _ (sym (c .before .before .before .before .before .before .before .numbers-verdict .ensures .answer-is) ∙ c .before .before .before .before .before .enum-told .given .1) in
-    (omega (arith, c .before .place .ensures, place-most (a .n) (a .last) (a .«record») w (p .few) (p .short)), p .seen-length)
+    let a = c .before .before .before .before .before .before .before .before .before .args in
+    let p = c .before .before .before .before .before .before .before .before .before .pre in
+    let w = accepted-in-range _ _ _ _ _ _ (c .before .before .before .before .before .before .before .before .numbers-verdict .ensures .answer-is) (c .before .before .before .before .before .before .enum-told .given .1) in
+    (omega (arith, c .before .place .ensures, place-most (a .n) (a .last) (a .bits) (a .«record») w (p .few) (p .short) (p .narrow)), p .seen-length)
 
 returns-2 : tie.Need-returns-2
 unfolding record-by place-by
 returns-2 c =
-    let passed = sym (c .before .before .before .before .before .before .before .before .numbers-verdict .ensures .answer-is) ∙ c .before .before .before .before .before .before .enum-told .given .1 in
+    let passed = sym (c .before .before .before .before .before .before .before .before .before .numbers-verdict .ensures .answer-is) ∙ c .before .before .before .before .before .before .before .enum-told .given .1 in
     let at = c .before .before .place .ensures in
     record {
       verdict-is = rw (passed, ← at) (c .look .ensures .0);
@@ -89,6 +92,7 @@ judge-spec =
     cast-place
     cast-place-2
     cast-place-3
+    cast-place-4
     place-requires
     cast-places
     mul-places
