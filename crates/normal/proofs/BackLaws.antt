@@ -5,21 +5,20 @@ use mathlib.Core.List.{List}
 use native.Mathlib.Nat.{le-refl}
 use lib.ListN.{length}
 use Rattle.refusal.specs.declared.cause.Verdict.the-variants.{Accepted}
-use Rattle.refusal.proofs.VerdictLaws.{both-accepted}
 use Rattle.layout.specs.Layout.{header}
 use Rattle.layout.specs.Chain.{Fate, ends}
-use Rattle.judgement.specs.Judgement.{sheet-form, line-and-length, verdict-to-8, sheet-verdict}
+use Rattle.judgement.specs.Judgement.{verdict-to-8, sheet-verdict}
 use Rattle.judgement.specs.Theorems.{WellFormed}
 use Rattle.judgement.proofs.FormLaws.{form-accepts}
 use Rattle.sheet.proofs.FateLaws.{one-fate}
 use Rattle.selection.specs.Places.{how-many}
 use Rattle.writer.specs.Sheet.{sheet}
 use Rattle.writer.specs.Judgement.{header-and-table, before-buffer}
-use Rattle.writer.proofs.PromiseLaws.{before-both, before-few, taken-both, taken-spare, taken-length}
+use Rattle.writer.proofs.PromiseLaws.{before-both, before-few, taken-both, taken-length}
 use Rattle.normal.specs.Reading.{ReadBack}
 use Rattle.normal.proofs.SheetLaws as bytes
 use Rattle.normal.proofs.ChainLaws.{chain-ends}
-use Rattle.normal.proofs.SameLaws.{same-line, written-same, written-header}
+use Rattle.normal.proofs.SameLaws.{opening-formed, same-opening, written-same, written-header}
 use Rattle.normal.proofs.ReadLaws.{records-pass, filled-whole, filled-kept}
 
 module _ (h table : List ℕ) (w : before-buffer h table ≡ Accepted) where
@@ -30,14 +29,13 @@ module _ (h table : List ℕ) (w : before-buffer h table ≡ Accepted) where
   well-formed = record {
     length-is = bytes.length-is h table;
     most = before-few h table w;
-    spare-zero = bytes.spare-same h table ∙ taken-spare h (length table) taken;
   }
 
   opening : verdict-to-8 (sheet h table) (length table) ≡ Accepted
-  unfolding verdict-to-8
   opening =
-      let line = both-accepted (sheet-form h) (line-and-length h (length table)) (taken-both h (length table) taken .1) .1 in
-      rw (form-accepts (sheet h table) (how-many (header h) table) well-formed .0) (same-line (sheet h table) h (written-same h table) (length table) ∙ line)
+      let v = taken-both h (length table) taken .1 in
+      same-opening (sheet h table) h (written-same h table) (length table)
+      (form-accepts (sheet h table) (how-many (header h) table) well-formed .0) (opening-formed h (length table) v) ∙ v
 
   pub read-back : ReadBack h table
   unfolding sheet-verdict

@@ -10,13 +10,13 @@ use lib.Seq.{getD-take, length-take-le}
 use borrow.Author.Tests.{eq-eqb}
 use Rattle.refusal.specs.declared.cause.Cause.the-variants.{SheetForm}
 use Rattle.refusal.specs.declared.cause.Verdict.the-variants.{Accepted}
-use Rattle.refusal.proofs.VerdictLaws.{refused-false, both-accepted}
-use Rattle.layout.specs.Layout.{byte, header, spare, records}
-use Rattle.judgement.specs.Judgement.{sheet-form, line-and-length, verdict-to-8}
+use Rattle.refusal.proofs.VerdictLaws.{refused-false}
+use Rattle.layout.specs.Layout.{byte, header, records}
+use Rattle.judgement.specs.Judgement.{verdict-to-8}
 use Rattle.judgement.specs.Theorems.{WellFormed}
 use Rattle.judgement.proofs.FormLaws.{form-accepts, form-sound}
 use Rattle.writer.specs.Judgement.{header-length, header-and-table}
-use Rattle.normal.proofs.SameLaws.{SameNumbers, same-header, same-line}
+use Rattle.normal.proofs.SameLaws.{SameNumbers, opening-formed, same-header, same-opening}
 
 module _ (s : List ℕ) where
   pub front-byte : (b : ℕ) → b < 12 → byte (take 12 s) b ≡ byte s b
@@ -32,12 +32,11 @@ module _ (s : List ℕ) where
   pub front-header : header (take 12 s) ≡ header s
   front-header = same-header (take 12 s) s front-same
 
-  -- ---- of a sheet that causes 1 to 8 let through
+  -- ---- of a sheet that causes 1, 15 and 2 to 8 let through
 
   module _ (l : ℕ) (v : verdict-to-8 s l ≡ Accepted) where
     pub form : WellFormed s (records s)
-    unfolding verdict-to-8
-    form = form-sound s (both-accepted (sheet-form s) (line-and-length s l) v .0)
+    form = form-sound s (opening-formed s l v)
 
     twelve : length (take 12 s) ≡ 12
     twelve = length-take-le 12 s (omega (arith, form .length-is))
@@ -48,13 +47,7 @@ module _ (s : List ℕ) where
 
     -- they are let through too
     pub front-accepted : header-and-table (take 12 s) l ≡ Accepted
-    unfolding header-and-table verdict-to-8 spare
+    unfolding header-and-table
     front-accepted =
-        let line = both-accepted (sheet-form s) (line-and-length s l) v .1 in
-        let alone : WellFormed (take 12 s) 0 = record {
-          length-is = twelve;
-          most = omega arith;
-          spare-zero = front-byte 5 (omega arith) ∙ form .spare-zero;
-        } in
-        rw (front-length, form-accepts (take 12 s) 0 alone .0)
-        (same-line (take 12 s) s front-same l ∙ line)
+        let alone : WellFormed (take 12 s) 0 = record { length-is = twelve; most = omega arith } in
+        rw front-length (same-opening (take 12 s) s front-same l (form-accepts (take 12 s) 0 alone .0) (opening-formed s l v) ∙ v)

@@ -8,12 +8,11 @@ use lib.Dec.{eqb}
 use lib.ListN.{length, getD, set, getD-replicate}
 use lib.Seq.{getD-set-same, getD-set-other}
 use Rattle.line.specs.Count.{count}
-use Rattle.line.specs.Line.{table-length}
 use Rattle.line.specs.Ballot.{silence}
 use Rattle.line.proofs.CountLaws.{count-same, count-none, count-change}
 use Rattle.refusal.specs.declared.cause.Verdict.the-variants.{Accepted}
 use Rattle.refusal.proofs.VerdictLaws.{both-accepted}
-use Rattle.layout.specs.Layout.{header, ballot}
+use Rattle.layout.specs.Layout.{tables-wanted, ballot}
 use Rattle.layout.specs.Chain.{reached}
 use Rattle.judgement.specs.Judgement.{record-verdict, records-verdict}
 use Rattle.sheet.specs.Reading.{place-of, filled}
@@ -32,13 +31,13 @@ loud-is table p v e = rw e
 module _ (s : List ℕ) where
   -- m accepted records fill as many places as have a ballot other than silence
   pub filled-loud : (m : ℕ) → records-verdict s m ≡ Accepted
-      → count (table-length (header s .n) (header s .t)) (loud (filled s m)) ≡ count m (speaking s)
+      → count (tables-wanted s) (loud (filled s m)) ≡ count m (speaking s)
   unfolding filled records-verdict count speaking
   filled-loud zero v =
-      let n = table-length (header s .n) (header s .t) in
+      let n = tables-wanted s in
       count-same n (loud (filled s 0)) (λ p. false) (λ p l. loud-is (filled s 0) p 255 (getD-replicate {A = ℕ} n p 255 0 l)) ∙ count-none n
   filled-loud (suc m) v =
-      let n = table-length (header s .n) (header s .t) in
+      let n = tables-wanted s in
       let x = place-of s (reached s m) in
       let b = ballot s (reached s m) in
       let (before, here) = both-accepted (records-verdict s m) (record-verdict s m) v in

@@ -8,22 +8,22 @@ use lib.Dec.{eqb}
 use lib.ListN.{length, getD, take}
 use borrow.Author.Tests.{le-ltb}
 use Rattle.line.specs.Count.{if_then_else_, count}
-use Rattle.line.specs.Line.{table-length}
+use Rattle.line.specs.Line.{rounds}
 use Rattle.line.specs.Marks.{marked}
 use Rattle.line.specs.Ballot.{silence}
 use Rattle.line.proofs.CountLaws.{count-le, count-same}
 use Rattle.refusal.specs.declared.cause.Cause.the-variants.{TooManyRecords}
 use Rattle.refusal.specs.declared.cause.Verdict.the-variants.{Accepted}
 use Rattle.refusal.proofs.VerdictLaws.{refused-false, both-accepted}
-use Rattle.layout.specs.Layout.{header, most-records, records, round, from, to, ballot}
+use Rattle.layout.specs.Layout.{header, tables-wanted, most-records, records, round, from, to, ballot, bit}
 use Rattle.layout.specs.Chain.{Record, reached, Ends, Fate}
 use Rattle.layout.proofs.ChainLaws.{chain-short, before-end, one-length}
 use Rattle.judgement.specs.Judgement.{verdict-to-8, chain-verdict, sheet-verdict}
 use Rattle.sheet.specs.Reading.{place-of, table-of}
-use Rattle.sheet.proofs.PlaceLaws.{InPlace, place-inside, round-told, from-told, to-told}
+use Rattle.sheet.proofs.PlaceLaws.{InPlace, place-inside, bit-told, round-told, from-told, to-told}
 use Rattle.sheet.proofs.TableLaws.{judged, judged-place, filled-length, accepted-ends, ballots-stand, unmarked-silent}
 use Rattle.sheet.proofs.PromiseLaws.{opening-length, opening-most}
-use Rattle.selection.specs.Places.{round-at, from-at, to-at, to-write, how-many, place-written}
+use Rattle.selection.specs.Places.{bit-at, round-at, from-at, to-at, to-write, how-many, place-written}
 use Rattle.selection.proofs.PlaceLaws.{told}
 use Rattle.selection.proofs.OrderLaws.{written-back}
 use Rattle.writer.specs.Sheet.{sheet}
@@ -43,20 +43,21 @@ module _ (s : List ℕ) (l : ℕ) (f : Fate s) (v : sheet-verdict s l f ≡ Acce
   -- ---- the table
 
   -- it has the right length
-  pub table-long : length (table-of s f) ≡ table-length (header s .n) (header s .t)
+  pub table-long : length (table-of s f) ≡ tables-wanted s
   table-long = let (m, (e, (w, t))) = accepted-ends s l f v in rw t (filled-length s m)
 
   -- unmarked senders are silent in it
-  silent-there : (p : ℕ) → p < table-length (header s .n) (header s .t) → marked (header s .marks) (from-at (header s .n) p) ≡ false
+  silent-there : (p : ℕ) → p < tables-wanted s → marked (header s .marks) (from-at (header s .n) p) ≡ false
       → getD (table-of s f) p 0 ≡ 255
   silent-there p u e =
       let n = header s .n in
-      let w = told n (header s .t) p u in
+      let t = header s .t in
+      let w = told n t (header s .w) p u in
       rw (w .place-is) at
-      (unmarked-silent s l f v (round-at n p) (from-at n p) (to-at n p) (w .round-low) (w .round-high) (w .from-below) (w .to-below) e)
+      (unmarked-silent s l f v (bit-at n t p) (round-at n t p) (from-at n p) (to-at n p) (w .bit-below) (w .round-low) (w .round-high) (w .from-below) (w .to-below) e)
 
   -- so what is written is what is not silent
-  write-is-loud : (p : ℕ) → p < table-length (header s .n) (header s .t) → to-write (header s .n) (header s .marks) (table-of s f) p ≡ loud (table-of s f) p
+  write-is-loud : (p : ℕ) → p < tables-wanted s → to-write (header s .n) (header s .marks) (table-of s f) p ≡ loud (table-of s f) p
   unfolding to-write loud
   write-is-loud p u = go (marked (header s .marks) (from-at (header s .n) p)) refl
     where
@@ -66,7 +67,7 @@ module _ (s : List ℕ) (l : ℕ) (f : Fate s) (v : sheet-verdict s l f ≡ Acce
       go false e = rw (silent-there p u e)
 
   -- and all of it is kept
-  pub all-kept : (p : ℕ) → p < table-length (header s .n) (header s .t) → kept (header s) (table-of s f) p ≡ getD (table-of s f) p 0
+  pub all-kept : (p : ℕ) → p < tables-wanted s → kept (header s) (table-of s f) p ≡ getD (table-of s f) p 0
   unfolding kept
   all-kept p u = go (marked (header s .marks) (from-at (header s .n) p)) refl
     where
@@ -82,7 +83,7 @@ module _ (s : List ℕ) (l : ℕ) (f : Fate s) (v : sheet-verdict s l f ≡ Acce
   unfolding how-many
   number-written m e =
       let (k, (d, (w, t))) = accepted-ends s l f v in
-      let n = table-length (header s .n) (header s .t) in
+      let n = tables-wanted s in
       let a = count-same n (to-write (header s .n) (header s .marks) (table-of s f)) (loud (table-of s f)) write-is-loud in
       let b : count n (loud (table-of s f)) ≡ count k (speaking s) = rw t (filled-loud s k w) in
       a ∙ b ∙ ap (λ (i : ℕ). count i (speaking s)) (one-length s k m d e)
@@ -125,7 +126,7 @@ module _ (s : List ℕ) (l : ℕ) (f : Fate s) (v : sheet-verdict s l f ≡ Acce
 
     -- with its content
     pub kept-record : (i : ℕ) × SameContent s (reached s a) (sheet (take 12 s) (table-of s f)) i
-    unfolding round-at from-at to-at
+    unfolding bit-at round-at from-at to-at
     kept-record =
         let h = take 12 s in
         let table = table-of s f in
@@ -137,10 +138,11 @@ module _ (s : List ℕ) (l : ℕ) (f : Fate s) (v : sheet-verdict s l f ≡ Acce
         let hd = front-header s in
         let low : 1 ≤ i = omega arith in
         let high : i ≤ how-many (header h) table = rw hd (omega arith) in
-        let x : round r i ≡ p / n / n + 1 = bytes.round-is h table i low high ∙ rw (hd, g) in
+        let x : round r i ≡ p / n / n % rounds (header s .t) + 1 = bytes.round-is h table i low high ∙ rw (hd, g) in
         let y : from r i ≡ p / n % n + 1 = bytes.from-is h table i low high ∙ rw (hd, g) in
         let z : to r i ≡ p % n + 1 = bytes.to-is h table i low high ∙ rw (hd, g) in
-        let b : ballot r i ≡ getD table p 0 = bytes.ballot-is h table i low high ∙ rw (hd, g) in (
+        let b : ballot r i ≡ getD table p 0 = bytes.ballot-is h table i low high ∙ rw (hd, g) in
+        let c : bit r i ≡ p / n / n / rounds (header s .t) = bytes.bit-is h table i low high ∙ rw (hd, g) in (
           i,
           record {
             a-record = is-record h table i low high;
@@ -148,5 +150,6 @@ module _ (s : List ℕ) (l : ℕ) (f : Fate s) (v : sheet-verdict s l f ≡ Acce
             from-same = omega (arith, y, from-told s (reached s a) passed, passed .from-low);
             to-same = omega (arith, z, to-told s (reached s a) passed, passed .to-low);
             ballot-same = b ∙ ballots-stand s l f v a q;
+            bit-same = c ∙ bit-told s (reached s a) passed;
           },
         )

@@ -10,14 +10,13 @@ use lib.Dec.{eqb}
 use lib.ListN.{length, getD}
 use borrow.Author.Tests.{eqb-false, not-true}
 use Rattle.line.specs.Count.{count}
-use Rattle.line.specs.Line.{table-length}
 use Rattle.line.specs.Marks.{marked}
 use Rattle.line.specs.Ballot.{silence}
 use Rattle.line.proofs.CountLaws.{count-same, count-none}
 use Rattle.refusal.specs.declared.cause.Cause.the-variants.{RecordForm, UnmarkedSender, Duplicate}
 use Rattle.refusal.specs.declared.cause.Verdict.the-variants.{Accepted}
 use Rattle.refusal.proofs.VerdictLaws.{refused-false}
-use Rattle.layout.specs.Layout.{header, from, to, ballot}
+use Rattle.layout.specs.Layout.{header, tables-wanted, from, to, ballot}
 use Rattle.layout.specs.Chain.{Record, reached}
 use Rattle.judgement.specs.Judgement.{misplaced, record-form, unmarked-sender, same-place, taken-before, duplicate, record-verdict, records-verdict}
 use Rattle.judgement.proofs.RangeLaws.{both-true, range-passes}
@@ -54,7 +53,7 @@ module _ (h table : List ℕ) where
     -- its numbers are in their ranges
     in-place : InPlace (sheet h table) m
     in-place =
-        let w = told (header h .n) (header h .t) (place-written (header h) table m) (written-is (header h) table m some most .below) in
+        let w = told (header h .n) (header h .t) (header h .w) (place-written (header h) table m) (written-is (header h) table m some most .below) in
         let r = bytes.round-is h table m some most in
         let f = bytes.from-is h table m some most in
         let t = bytes.to-is h table m some most in
@@ -65,19 +64,20 @@ module _ (h table : List ℕ) where
           from-high = omega (arith, f, w .from-below);
           to-low = omega (arith, t);
           to-high = omega (arith, t, w .to-below);
+          bit-below = rw (bytes.bit-is h table m some most) (w .bit-below);
           rest-zero = bytes.rest-is h table m some most;
         })
 
     pub place-is : place-of (sheet h table) m ≡ place-written (header h) table m
     unfolding place-of
     place-is =
-        let w = told (header h .n) (header h .t) (place-written (header h) table m) (written-is (header h) table m some most .below) in
-        rw (written-header h table, bytes.round-is h table m some most, from-is, to-is) (w .place-is)
+        let w = told (header h .n) (header h .t) (header h .w) (place-written (header h) table m) (written-is (header h) table m some most .below) in
+        rw (written-header h table, bytes.bit-is h table m some most, bytes.round-is h table m some most, from-is, to-is) (w .place-is)
 
     -- 11
     well-placed : misplaced (sheet h table) m ≡ false
     unfolding misplaced
-    well-placed = range-passes _ _ _ _ _ _ in-place
+    well-placed = range-passes _ _ _ _ _ _ _ _ in-place
 
     -- 12
     marked-sender : marked (header (sheet h table) .marks) (from (sheet h table) m - 1) ≡ true
@@ -131,15 +131,15 @@ module _ (h table : List ℕ) where
     unfolding kept
     kept-unmarked e = rw e
 
-  pub filled-whole : length (filled (sheet h table) (how-many (header h) table)) ≡ table-length (header h .n) (header h .t)
+  pub filled-whole : length (filled (sheet h table) (how-many (header h) table)) ≡ tables-wanted h
   filled-whole = rw (filled-length (sheet h table) (how-many (header h) table), written-header h table)
 
   -- a byte that is not written is read as silence
-  filled-silent : (p : ℕ) → p < table-length (header h .n) (header h .t) → to-write (header h .n) (header h .marks) table p ≡ false
+  filled-silent : (p : ℕ) → p < tables-wanted h → to-write (header h .n) (header h .marks) table p ≡ false
       → getD (filled (sheet h table) (how-many (header h) table)) p 0 ≡ 255
   filled-silent p l e =
       let s = sheet h table in
-      let l′ : p < table-length (header s .n) (header s .t) = rw (written-header h table) l in
+      let l′ : p < tables-wanted s = rw (written-header h table) l in
       filled-else s (how-many (header h) table) p l′
       (λ a u q.
       let f = written-is (header h) table (a + 1) (omega arith) (omega arith) .passes in
@@ -149,7 +149,7 @@ module _ (h table : List ℕ) where
       omega arith)
 
   -- one that is written is read as it was
-  filled-written : (p : ℕ) → p < table-length (header h .n) (header h .t) → to-write (header h .n) (header h .marks) table p ≡ true
+  filled-written : (p : ℕ) → p < tables-wanted h → to-write (header h .n) (header h .marks) table p ≡ true
       → getD (filled (sheet h table) (how-many (header h) table)) p 0 ≡ getD table p 0
   filled-written p l e =
       let s = sheet h table in
@@ -161,7 +161,7 @@ module _ (h table : List ℕ) where
       rw (reached-is h table a u) (bytes.ballot-is h table (a + 1) (omega arith) (omega arith)) in
       rw x at (filled-at s k a (records-pass k (le-refl k)) u) ∙ z ∙ rw g
 
-  pub filled-kept : (p : ℕ) → p < table-length (header h .n) (header h .t)
+  pub filled-kept : (p : ℕ) → p < tables-wanted h
       → getD (filled (sheet h table) (how-many (header h) table)) p 0 ≡ kept (header h) table p
   filled-kept p l = go (to-write (header h .n) (header h .marks) table p) (marked (header h .marks) (from-at (header h .n) p)) refl refl
     where

@@ -5,9 +5,8 @@ use mathlib.Core.List.{List}
 use native.Mathlib.Omega.{arith}
 use lib.ListN.{length, take}
 use lib.Seq.{ext-getD}
-use Rattle.line.specs.Line.{table-length}
 use Rattle.refusal.specs.declared.cause.Verdict.the-variants.{Accepted}
-use Rattle.layout.specs.Layout.{header}
+use Rattle.layout.specs.Layout.{tables-wanted}
 use Rattle.layout.specs.Chain.{Fate}
 use Rattle.judgement.specs.Judgement.{sheet-verdict}
 use Rattle.sheet.specs.Reading.{table-of}
@@ -28,7 +27,7 @@ module _ (s : List ℕ) (l : ℕ) (f : Fate s) (v : sheet-verdict s l f ≡ Acce
       ext-getD 0 (table-of (sheet (take 12 s) table) g) table (r .length-back g)
       (λ p u.
       let u′ : p < length table = omega (arith, r .length-back g) in
-      let u″ : p < table-length (header s .n) (header s .t) = omega (arith, table-long s l f v) in
+      let u″ : p < tables-wanted s = omega (arith, table-long s l f v) in
       r .table-back g p u′ ∙ rw (front-header s) (all-kept s l f v p u″))
 
   pub rewrites : Rewrites s f

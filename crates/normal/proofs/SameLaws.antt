@@ -3,8 +3,10 @@ use Prim.Native.Nat.{ℕ, _+_, _<_}
 use mathlib.Core.Path.{_≡_, _∙_}
 use mathlib.Core.List.{List}
 use native.Mathlib.Omega.{arith}
+use Rattle.refusal.specs.declared.cause.Verdict.the-variants.{Accepted}
+use Rattle.refusal.proofs.VerdictLaws.{both-accepted}
 use Rattle.layout.specs.Layout.{byte, two, four, header}
-use Rattle.judgement.specs.Judgement.{line-and-length}
+use Rattle.judgement.specs.Judgement.{sheet-form, verdict-to-6, verdict-to-8}
 use Rattle.record.specs.Bytes.{header-bytes}
 use Rattle.writer.specs.Sheet.{sheet}
 use Rattle.normal.proofs.SheetLaws.{header-is, marks-are}
@@ -13,6 +15,11 @@ use Rattle.normal.proofs.SheetLaws.{header-is, marks-are}
 pub record SameNumbers (h h′ : List ℕ) : Type 0 where
   pub before : (b : ℕ) → b < 6 → byte h b ≡ byte h′ b
   pub behind : (b : ℕ) → b < 4 → byte h (8 + b) ≡ byte h′ (8 + b)
+
+-- causes 1, 15 and 2 to 8 begin with the form
+pub opening-formed : (s : List ℕ) (l : ℕ) → verdict-to-8 s l ≡ Accepted → sheet-form s ≡ Accepted
+unfolding verdict-to-8 verdict-to-6
+opening-formed s l v = both-accepted (sheet-form s) _ (both-accepted (verdict-to-6 s) _ v .0) .0
 
 module _ (h h′ : List ℕ) (w : SameNumbers h h′) where
   pub same-header : header h ≡ header h′
@@ -24,15 +31,17 @@ module _ (h h′ : List ℕ) (w : SameNumbers h h′) where
         w .before 2 (omega arith),
         w .before 3 (omega arith),
         w .before 4 (omega arith),
+        w .before 5 (omega arith),
         w .behind 0 (omega arith),
         w .behind 1 (omega arith),
         w .behind 2 (omega arith),
         w .behind 3 (omega arith),
       )
 
-  pub same-line : (l : ℕ) → line-and-length h l ≡ line-and-length h′ l
-  unfolding line-and-length
-  same-line l = rw same-header
+  -- where neither is refused for its form
+  pub same-opening : (l : ℕ) → sheet-form h ≡ Accepted → sheet-form h′ ≡ Accepted → verdict-to-8 h l ≡ verdict-to-8 h′ l
+  unfolding verdict-to-8 verdict-to-6
+  same-opening l a b = rw (a, b, same-header)
 
   same-bytes : (k : ℕ) → header-bytes h k ≡ header-bytes h′ k
   unfolding header-bytes

@@ -8,9 +8,9 @@ use native.Mathlib.Omega.{arith}
 use lib.ListN.{length, getD, length-append, List·getD-append}
 use lib.Seq.{getD-append-add}
 use Rattle.layout.specs.declared.Header.{Header}
-use Rattle.layout.specs.Layout.{byte, two, header, spare, first, records, start, round, from, to, ballot, next, rest}
+use Rattle.layout.specs.Layout.{byte, two, header, first, records, start, round, from, to, ballot, next, bit, rest}
 use Rattle.judgement.proofs.FormLaws as form
-use Rattle.selection.specs.Places.{round-at, from-at, to-at, how-many, place-written}
+use Rattle.selection.specs.Places.{bit-at, round-at, from-at, to-at, how-many, place-written}
 use Rattle.record.specs.Bytes.{low, high, first-index, header-bytes, eight}
 use Rattle.writer.specs.Sheet.{next-index, record-of, record-bytes, records-bytes, sheet}
 use Rattle.writer.proofs.RecordLaws.{records-length}
@@ -79,10 +79,6 @@ module _ (h table : List ℕ) where
       go (suc (suc (suc zero))) l = refl
       go (suc (suc (suc (suc b)))) l = absurd (omega arith)
 
-  pub spare-same : spare (sheet h table) ≡ spare h
-  unfolding spare
-  spare-same = header-is 5 (omega arith)
-
   pub first-is : first (sheet h table) ≡ first-index (how-many (header h) table)
   unfolding first two header-bytes
   first-is = rw (header-at 6 (omega arith), header-at 7 (omega arith)) (two-bytes _)
@@ -100,7 +96,7 @@ module _ (h table : List ℕ) where
         ap (λ (i : ℕ). getD (header-bytes h k ++ recs) i 0) z ∙ getD-append-add (header-bytes h k) recs (8 * (m - 1) + c) 0
         ∙ records-at (header h) table k k (m - 1) c (omega arith) l ∙ ap (λ (i : ℕ). getD (record-bytes (header h) table k i) c 0) e
 
-    pub round-is : round (sheet h table) m ≡ round-at (header h .n) (place-written (header h) table m)
+    pub round-is : round (sheet h table) m ≡ round-at (header h .n) (header h .t) (place-written (header h) table m)
     unfolding round record-bytes record-of eight
     round-is = rw add-zero at (record-at 0 (omega arith))
 
@@ -122,8 +118,10 @@ module _ (h table : List ℕ) where
         let e : start m + 4 + 1 ≡ start m + 5 = omega arith in
         rw (e, record-at 4 (omega arith), record-at 5 (omega arith)) (two-bytes _)
 
+    pub bit-is : bit (sheet h table) m ≡ bit-at (header h .n) (header h .t) (place-written (header h) table m)
+    unfolding bit record-bytes record-of eight
+    bit-is = record-at 6 (omega arith)
+
     pub rest-is : rest (sheet h table) m ≡ 0
-    unfolding rest two record-bytes record-of eight
-    rest-is =
-        let e : start m + 6 + 1 ≡ start m + 7 = omega arith in
-        rw (e, record-at 6 (omega arith), record-at 7 (omega arith))
+    unfolding rest record-bytes record-of eight
+    rest-is = record-at 7 (omega arith)

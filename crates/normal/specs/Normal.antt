@@ -9,14 +9,14 @@ use lib.ListN.{length, take}
 use Rattle.line.specs.Count.{count}
 use Rattle.line.specs.Ballot.{silence}
 use Rattle.refusal.specs.declared.cause.Verdict.the-variants.{Accepted}
-use Rattle.layout.specs.Layout.{byte, header, records, round, from, to, ballot}
+use Rattle.layout.specs.Layout.{byte, header, records, round, from, to, ballot, bit}
 use Rattle.layout.specs.Chain.{Record, reached, Ends, Fate}
 use Rattle.judgement.specs.Judgement.{sheet-verdict}
 use Rattle.sheet.specs.Reading.{place-of, table-of}
 use Rattle.writer.specs.Sheet.{sheet}
 use Rattle.writer.specs.Judgement.{before-buffer}
 
--- a sheet rewritten: its header's twelve bytes and the table that it reads as, written
+-- a sheet rewritten: its header's twelve bytes and the tables that it reads as, written
 unfoldable pub rewritten : (s : List ℕ) → Fate s → List ℕ
 rewritten s f = sheet (take 12 s) (table-of s f)
 
@@ -24,15 +24,17 @@ rewritten s f = sheet (take 12 s) (table-of s f)
 unfoldable pub speaking : List ℕ → ℕ → Bool
 speaking s a = not (eqb (ballot s (reached s a)) silence)
 
--- the record with index i of one sheet and the record with index j of another have the same round, from, to and ballot
+-- the record with index i of one sheet and the record with index j of another have the same round, from, to, ballot and bit
 pub record SameContent (s : List ℕ) (i : ℕ) (s′ : List ℕ) (j : ℕ) : Type 0 where
   pub a-record : Record s′ j
   pub round-same : round s′ j ≡ round s i
   pub from-same : from s′ j ≡ from s i
   pub to-same : to s′ j ≡ to s i
   pub ballot-same : ballot s′ j ≡ ballot s i
+  pub bit-same : bit s′ j ≡ bit s i
 
--- a sheet in its normal form: no record is outside the chain, none is of silence, and they stand in the order of the table
+-- a sheet in its normal form: no record is outside the chain, none is of silence, and they stand in the order of the tables: by bit, then
+-- round, from, to
 pub record Tidy (s : List ℕ) : Type 0 where
   pub chained : (i : ℕ) → Record s i → reached s (i - 1) ≡ i
   pub ends-there : Ends s (records s)
@@ -56,7 +58,7 @@ pub record Rewrites (s : List ℕ) (f : Fate s) : Type 0 where
   -- and rewriting it again changes no byte
   pub again-same : (g : Fate (rewritten s f)) → rewritten (rewritten s f) g ≡ rewritten s f
 
--- two sheets that read alike: the header's bytes beside the first index, and the table
+-- two sheets that read alike: the header's bytes beside the first index, and the tables
 pub record ReadAlike (s s′ : List ℕ) (f : Fate s) (f′ : Fate s′) : Type 0 where
   pub before-same : (b : ℕ) → b < 6 → byte s b ≡ byte s′ b
   pub behind-same : (b : ℕ) → 8 ≤ b → b < 12 → byte s b ≡ byte s′ b

@@ -15,7 +15,7 @@ use Rattle.sheet.specs.Reading.{table-of}
 use Rattle.selection.specs.Places.{from-at, how-many}
 use Rattle.writer.specs.Sheet.{sheet}
 
--- the byte at the place p that is given back: the table's where its sender is marked, otherwise 255, whatever stood there
+-- the byte at the place p that is given back: the tables' where its sender is marked, otherwise 255, whatever stood there
 unfoldable pub kept : Header → List ℕ → ℕ → ℕ
 kept h table p = if marked (h .marks) (from-at (h .n) p) then getD table p 0 else silence
 
@@ -24,9 +24,9 @@ pub record ReadBack (h table : List ℕ) : Type 0 where
   -- its chain ends after all its records
   pub all-records : how-many (header h) table ≡ records (sheet h table)
   pub chain-ends : Ends (sheet h table) (how-many (header h) table)
-  -- it is accepted with a table of the length handed in, whatever shows the fate of its chain
+  -- it is accepted with a buffer of the length handed in, whatever shows the fate of its chain
   pub accepted : (f : Fate (sheet h table)) → sheet-verdict (sheet h table) (length table) f ≡ Accepted
-  -- and gives back the header's numbers and every byte of the table
+  -- and gives back the header's numbers and every byte of the tables
   pub header-back : header (sheet h table) ≡ header h
   pub length-back : (f : Fate (sheet h table)) → length (table-of (sheet h table) f) ≡ length table
   pub table-back : (f : Fate (sheet h table)) (p : ℕ) → p < length table → getD (table-of (sheet h table) f) p 0 ≡ kept (header h) table p

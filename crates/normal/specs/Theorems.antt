@@ -9,11 +9,11 @@ use Rattle.writer.specs.Judgement.{before-buffer}
 use Rattle.normal.specs.Reading.{ReadBack}
 use Rattle.normal.specs.Normal.{rewritten, Rewrites, ReadAlike}
 
--- what is written is accepted by the reader, and gives back the header's numbers and the table, with 255 at the unmarked senders
+-- what is written is accepted by the reader, and gives back the header's numbers and the tables of all bits, with 255 at the unmarked senders
 abbrev pub Reads-back : Type 0
 Reads-back = (h table : List ℕ) → before-buffer h table ≡ Accepted → ReadBack h table
 
--- an accepted sheet, rewritten, reads the same; no record is outside the chain, none is of silence, records stand in the order of the table; rewriting it
+-- an accepted sheet, rewritten, reads the same; no record is outside the chain, none is of silence, records stand in the order of the tables; rewriting it
 -- again changes no byte
 abbrev pub Normal-form : Type 0
 Normal-form = (s : List ℕ) (l : ℕ) (f : Fate s) → sheet-verdict s l f ≡ Accepted → Rewrites s f

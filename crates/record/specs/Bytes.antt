@@ -23,6 +23,6 @@ header-bytes h k =
     ∷ low (first-index k) ∷ high (first-index k)
     ∷ byte h 8 ∷ byte h 9 ∷ byte h 10 ∷ byte h 11 ∷ []
 
--- "round, from, to, ballot, next index (two bytes), two zero bytes"
-unfoldable pub eight : ℕ → ℕ → ℕ → ℕ → ℕ → List ℕ
-eight round from to ballot next = round ∷ from ∷ to ∷ ballot ∷ low next ∷ high next ∷ 0 ∷ 0 ∷ []
+-- "round, from, to, ballot, next index (two bytes)", and request 5: "record byte 6 the bit", "byte 7 to be zero"
+unfoldable pub eight : ℕ → ℕ → ℕ → ℕ → ℕ → ℕ → List ℕ
+eight round from to ballot next bit = round ∷ from ∷ to ∷ ballot ∷ low next ∷ high next ∷ bit ∷ 0 ∷ []

@@ -49,17 +49,28 @@ pub fn put_header(header: &[u8], sheet: &mut [u8], k: usize)
 }
 
 // A record's eight bytes, from `at` on.
-fn put_eight(sheet: &mut [u8], at: usize, round: u8, from: u8, to: u8, ballot: u8, next: u16)
+fn put_eight(
+    sheet: &mut [u8],
+    at: usize,
+    round: u8,
+    from: u8,
+    to: u8,
+    ballot: u8,
+    next: u16,
+    bit: u8,
+)
     requires { ⌜ at + 8 ≤ length (now sheet) ⌝ }
-    ensures { λ _. ⌜ now (sheet .exit) ≡ laid (now (sheet .entry)) at (eight round from to ballot next) ⌝ }
+    ensures { λ _. ⌜ now (sheet .exit) ≡ laid (now (sheet .entry)) at (eight round from to ballot next bit) ⌝ }
 {
     put_four(sheet, at, round, from, to, ballot);
-    put_four(sheet, at + 4, (next % 256) as u8, (next / 256) as u8, 0, 0);
+    let low = (next % 256) as u8;
+    let high = (next / 256) as u8;
+    put_four(sheet, at + 4, low, high, bit, 0);
 }
 
 // A record, from `at` on.
-pub fn put(sheet: &mut [u8], at: usize, round: u8, from: u8, to: u8, ballot: u8, next: u16)
-    ensures { λ _. ⌜ now (sheet .exit) ≡ put-in (now (sheet .entry)) at (eight round from to ballot next) ⌝ }
+pub fn put(sheet: &mut [u8], at: usize, round: u8, from: u8, to: u8, ballot: u8, next: u16, bit: u8)
+    ensures { λ _. ⌜ now (sheet .exit) ≡ put-in (now (sheet .entry)) at (eight round from to ballot next bit) ⌝ }
 {
     if sheet.len() < 8 {
         return;
@@ -67,5 +78,5 @@ pub fn put(sheet: &mut [u8], at: usize, round: u8, from: u8, to: u8, ballot: u8,
     if sheet.len() - 8 < at {
         return;
     }
-    put_eight(sheet, at, round, from, to, ballot, next);
+    put_eight(sheet, at, round, from, to, ballot, next, bit);
 }

@@ -6,15 +6,15 @@ use native.Mathlib.Nat.{min-eq-left}
 use native.Mathlib.Omega.{arith}
 use lib.ListN.{length, take, drop, length-append}
 use lib.Seq.{take-append-seam, length-take-le}
-use Rattle.line.specs.Line.{largest-table}
-use Rattle.line.proofs.LineLaws.{table-bound}
+use Rattle.line.specs.Width.{largest-tables}
+use Rattle.line.proofs.WidthLaws.{tables-bound}
 use Rattle.refusal.specs.Cause.{number}
 use Rattle.refusal.specs.declared.cause.Cause.{Cause}
 use Rattle.refusal.specs.declared.cause.Verdict.the-variants as verdict
 use Rattle.refusal.proofs.VerdictLaws.{both-accepted}
 use Rattle.header.proofs.HeaderLaws.{length-accepts}
 use Rattle.layout.specs.declared.Header.{Header}
-use Rattle.layout.specs.Layout.{header, table-wanted}
+use Rattle.layout.specs.Layout.{header, tables-wanted}
 use Rattle.judgement.specs.Judgement.{verdict-to-8, chain-verdict, sheet-verdict}
 use Rattle.sheet.specs.declared.Reading.{Reading}
 use Rattle.sheet.specs.declared.Reading.the-variants as reading
@@ -70,11 +70,11 @@ module _ (h table : List ℕ) {answer : Need} (n : Needs h table answer) where
 
 -- ---- by the reader's answer
 
-module _ (s table₀ table₁ : List ℕ) {answer : Reading} (r : Reads s table₀ table₁ answer) (lent : length table₀ ≡ min (table-wanted s) largest-table) where
+module _ (s table₀ table₁ : List ℕ) {answer : Reading} (r : Reads s table₀ table₁ answer) (lent : length table₀ ≡ min (tables-wanted s) largest-tables) where
   -- the verdict is the sheet's own
   own : sheet-verdict s (length table₀) (r .fate) ≡ lines.verdict s (r .fate)
   own = verdict-same s (r .fate) (length table₀)
-      (λ sound. lent ∙ min-eq-left (table-bound (header s .n) (header s .t) (header s .upper) (sound .most) (sound .fits)))
+      (λ sound. lent ∙ min-eq-left (tables-bound (header s .n) (header s .t) (header s .upper) (header s .w) (sound .most) (sound .fits) (sound .narrow)))
 
   module _ (h : Header) (e : answer ≡ reading.Accepted h) where
     accepted : sheet-verdict s (length table₀) (r .fate) ≡ verdict.Accepted

@@ -3,9 +3,9 @@ ghost use mathlib.Core.Path.{_≡_};
 ghost use Prim.Native.Nat.{_≤_, min};
 ghost use lib.ListN.{length, take};
 ghost use Rattle.io.specs.Counts.{Counts};
-ghost use Rattle.line.specs.Line.{largest-table};
+ghost use Rattle.line.specs.Width.{largest-tables};
 ghost use Rattle.refusal.specs.declared.cause.Verdict.the-variants.{Accepted};
-ghost use Rattle.layout.specs.Layout.{table-wanted};
+ghost use Rattle.layout.specs.Layout.{tables-wanted};
 ghost use Rattle.writer.specs.Sheet.{sheet};
 ghost use Rattle.writer.specs.Judgement.{before-buffer};
 ghost use Rattle.normal.specs.Output.{Rewritten};
@@ -13,18 +13,23 @@ use input::Input;
 use libc::STDERR_FILENO;
 use libc::STDIN_FILENO;
 use libc::STDOUT_FILENO;
+use line::Line;
 use sheet::Reading;
 use writer::Need;
 
 // The longest sheet, of 4,096 records.
 const LONGEST: usize = 32780;
 
-// The table length of the sheet's line, or the largest table's where that is less.
+// The length of the tables of all bits, or the largest tables' where that is less.
 fn room(sheet: &[u8]) -> usize
-    ensures { λ r. ⌜ (r ≡ min (table-wanted (now (sheet .entry))) largest-table) × (r ≤ largest-table) ⌝ }
+    ensures { λ r. ⌜ (r ≡ min (tables-wanted (now (sheet .entry))) largest-tables) × (r ≤ largest-tables) ⌝ }
 {
-    let len = layout::table_len(sheet);
-    if len < 36864 { len } else { 36864 }
+    let len = layout::tables_len(sheet);
+    if len < Line::LARGEST_TABLES {
+        len
+    } else {
+        Line::LARGEST_TABLES
+    }
 }
 
 // Writes a sheet that nothing refuses at the start of the output.
@@ -42,9 +47,9 @@ fn write(header: &[u8], table: &[u8], out: &mut [u8]) -> usize
     }
 }
 
-// Reads a sheet into the table, and writes what was read.
+// Reads a sheet into the tables of all bits, and writes what was read.
 fn rewrite(sheet: &[u8], table: &mut [u8], out: &mut [u8]) -> usize
-    requires { ⌜ (length (now table) ≡ min (table-wanted (now sheet)) largest-table) × (length (now out) ≡ 32780) ⌝ }
+    requires { ⌜ (length (now table) ≡ min (tables-wanted (now sheet)) largest-tables) × (length (now out) ≡ 32780) ⌝ }
     ensures { λ r. ⌜ Rewritten (now (sheet .entry)) (now (out .exit)) r ⌝ }
 {
     let reading = sheet::read(sheet, table);
@@ -54,11 +59,11 @@ fn rewrite(sheet: &[u8], table: &mut [u8], out: &mut [u8]) -> usize
     }
 }
 
-// The whole normal form of a sheet, or its refusal's line, at the start of the output: no table and no sheet is too long for the buffers.
+// The whole normal form of a sheet, or its refusal's line, at the start of the output: no tables and no sheet are too long for the buffers.
 fn rewritten(sheet: &[u8], out: &mut [u8; LONGEST]) -> usize
     ensures { λ r. ⌜ Rewritten (now (sheet .entry)) (now (out .exit)) r × Counts r (now (out .exit)) ⌝ }
 {
-    let mut table = [255; 36864];
+    let mut table = [255; Line::LARGEST_TABLES];
     let len = room(sheet);
     rewrite(sheet, &mut table[..len], out)
 }

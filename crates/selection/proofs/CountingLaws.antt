@@ -14,7 +14,8 @@ use lib.Pow.{pow-pos}
 use borrow.Author.Tests.{le-leb, lt-leb, eq-eqb, ne-eqb}
 use Rattle.line.specs.Count.{if_then_else_, count}
 use Rattle.line.specs.Marks.{marked}
-use Rattle.line.specs.Line.{table-length, place}
+use Rattle.line.specs.Line.{place}
+use Rattle.line.specs.Width.{tables-length}
 use Rattle.line.specs.Ballot.{silence}
 use Rattle.line.proofs.CountLaws.{count-same, count-none}
 use Rattle.line.proofs.MarksLaws.{marked-above}
@@ -120,7 +121,7 @@ module _ (h : Header) (table : List ℕ) where
   pub counted-nobody : h .marks ≡ 0 → 0 ≡ counted h table
   unfolding counted how-many
   counted-nobody e =
-      let l = table-length (h .n) (h .t) in
+      let l = tables-length (h .n) (h .t) (h .w) in
       rw (count-same l (to-write (h .n) (h .marks) table) (λ p. false) (λ p q. nobody e p), count-none l)
       (go (leb (h .n) 32 && eqb (length table) l))
     where
@@ -133,15 +134,15 @@ module _ (h : Header) (table : List ℕ) where
   counted-large l = rw (lt-leb (h .n) 32 l)
 
   module _ (few : h .n ≤ 32) where
-    pub counted-none : length table ≢ table-length (h .n) (h .t) → 0 ≡ counted h table
+    pub counted-none : length table ≢ tables-length (h .n) (h .t) (h .w) → 0 ≡ counted h table
     unfolding counted
-    counted-none e = rw (le-leb (h .n) 32 few, ne-eqb (length table) (table-length (h .n) (h .t)) e)
+    counted-none e = rw (le-leb (h .n) 32 few, ne-eqb (length table) (tables-length (h .n) (h .t) (h .w)) e)
 
-    pub counted-all : length table ≡ table-length (h .n) (h .t) → counted h table ≡ how-many h table
+    pub counted-all : length table ≡ tables-length (h .n) (h .t) (h .w) → counted h table ≡ how-many h table
     unfolding counted
-    counted-all e = rw (le-leb (h .n) 32 few, eq-eqb (length table) (table-length (h .n) (h .t)) e)
+    counted-all e = rw (le-leb (h .n) 32 few, eq-eqb (length table) (tables-length (h .n) (h .t) (h .w)) e)
 
-    pub counted-is : (r : ℕ) → length table ≡ table-length (h .n) (h .t) → r ≡ count (table-length (h .n) (h .t)) (to-write (h .n) (h .marks) table)
+    pub counted-is : (r : ℕ) → length table ≡ tables-length (h .n) (h .t) (h .w) → r ≡ count (tables-length (h .n) (h .t) (h .w)) (to-write (h .n) (h .marks) table)
         → r ≡ counted h table
     unfolding how-many
     counted-is r e q = q ∙ sym (counted-all e)

@@ -8,7 +8,7 @@ use lib.Dec.{eqb}
 use lib.ListN.{getD}
 use borrow.Author.Tests.{eqb-true, not-false}
 use Rattle.line.specs.Count.{count}
-use Rattle.line.specs.Line.{table-length}
+use Rattle.line.specs.Width.{tables-length}
 use Rattle.line.specs.Marks.{marked}
 use Rattle.line.specs.Ballot.{silence}
 use Rattle.layout.specs.declared.Header.{Header}
@@ -39,18 +39,18 @@ module _ (n marks : ℕ) (table : List ℕ) (p : ℕ) where
 
 module _ (h : Header) (table : List ℕ) where
   module _ (m : ℕ) (some : 1 ≤ m) (most : m ≤ how-many h table) where
-    pub written-is : Ranked (to-write (h .n) (h .marks) table) (table-length (h .n) (h .t)) (m - 1) (place-written h table m)
+    pub written-is : Ranked (to-write (h .n) (h .marks) table) (tables-length (h .n) (h .t) (h .w)) (m - 1) (place-written h table m)
     unfolding place-written how-many
-    written-is = ranked-is (to-write (h .n) (h .marks) table) (table-length (h .n) (h .t)) (m - 1) (omega arith)
+    written-is = ranked-is (to-write (h .n) (h .marks) table) (tables-length (h .n) (h .t) (h .w)) (m - 1) (omega arith)
 
-  pub written-back : (p : ℕ) → p < table-length (h .n) (h .t) → to-write (h .n) (h .marks) table p ≡ true
+  pub written-back : (p : ℕ) → p < tables-length (h .n) (h .t) (h .w) → to-write (h .n) (h .marks) table p ≡ true
       → (count p (to-write (h .n) (h .marks) table) < how-many h table)
       × (place-written h table (count p (to-write (h .n) (h .marks) table) + 1) ≡ p)
   unfolding place-written how-many
   written-back p l e =
       let q = to-write (h .n) (h .marks) table in
       let z : count p q + 1 - 1 ≡ count p q = omega arith in
-      (rank-less q p (table-length (h .n) (h .t)) l e, rw z (ranked-back q (table-length (h .n) (h .t)) p l e))
+      (rank-less q p (tables-length (h .n) (h .t) (h .w)) l e, rw z (ranked-back q (tables-length (h .n) (h .t) (h .w)) p l e))
 
   pub in-order : InOrder h table
   in-order = record {

@@ -1,4 +1,4 @@
-// Which bytes of a run table are written to a sheet: how many there are, by round, then from, then to.
+// Which bytes of the run tables are written to a sheet: how many there are, by bit, then round, from, to.
 ghost use mathlib.Core.Path.{_≡_};
 ghost use Prim.Native.Nat.{_+_, _*_, _≤_, _<_};
 ghost use lib.ListN.{length};
@@ -11,6 +11,7 @@ ghost use Rattle.selection.specs.Leaps.{Leaps};
 use layout::Header;
 use line::Line;
 use line::marks;
+use line::width;
 
 // 1 where the byte is not silence.
 fn spoken(b: u8) -> u8
@@ -71,7 +72,7 @@ fn in_round(table: &[u8], marks: u32, to: &[u8; 33], at: usize, n: usize) -> usi
     k
 }
 
-// Of a table of so many rounds.
+// Of a table of so many rounds: the tables of all bits, one after another, are one.
 fn in_table(table: &[u8], marks: u32, n: u8, last: usize) -> usize
     requires { ⌜ Whole n last (now table) ⌝ }
     ensures { λ r. ⌜ r ≡ count (last * n * n) (to-write n marks (now (table .entry))) ⌝ }
@@ -89,7 +90,8 @@ fn in_table(table: &[u8], marks: u32, n: u8, last: usize) -> usize
     k
 }
 
-// How many bytes of a table are to be written; none where nobody is marked, where it is not of the header's length, or the line has more than 32 stations.
+// How many bytes of the tables of all bits are to be written; none where nobody is marked, where they are not of the header's length, or the line has more than
+// 32 stations.
 pub fn count(header: Header, table: &[u8]) -> usize
     ensures { λ r. ⌜ r ≡ counted header (now (table .entry)) ⌝ }
 {
@@ -104,8 +106,9 @@ pub fn count(header: Header, table: &[u8]) -> usize
         t: header.t,
         upper: header.upper,
     };
-    if table.len() != line.table_len() {
+    if table.len() != line.tables_len(header.w) {
         return 0;
     }
-    in_table(table, header.marks, header.n, line.rounds())
+    let last = (width::bits(header.w) as usize) * line.rounds();
+    in_table(table, header.marks, header.n, last)
 }

@@ -1,74 +1,75 @@
 -- Laws of cause 14: which verdicts it can be told from, and when writing is refused by it. Assumes nothing.
-use Prim.Native.Nat.{ℕ, _≤_, _<_}
-use mathlib.Core.Path.{_≡_, refl, ap}
+use Prim.Native.Nat.{ℕ, _^_, _<_}
+use mathlib.Core.Path.{_≡_, refl, ap, _∙_}
 use mathlib.Core.Bool.{Bool, true, false, not}
-use mathlib.Core.Logic.{_↔_}
+use mathlib.Core.Logic.{_≢_, _↔_}
 use mathlib.Core.List.{List}
 use native.Mathlib.Omega.{arith}
-use lib.Dec.{ltb, eqb}
+use lib.Dec.{leb, ltb, eqb}
 use lib.ListN.{length}
 use borrow.Author.Tests.{ltb-true, lt-ltb}
-use Rattle.line.specs.Line.{most-stations, table-length}
+use Rattle.line.specs.Line.{most-stations}
+use Rattle.line.specs.Width.{most-bits, bits}
 use Rattle.line.specs.Marks.{mark-beyond}
 use Rattle.refusal.specs.Cause.{number, code, refused-if, _or-else_}
 use Rattle.refusal.specs.declared.cause.Cause.{Cause}
-use Rattle.refusal.specs.declared.cause.Cause.the-variants.{SheetForm, StationCount, Thresholds, StationNumber, Value, MarkBeyond, Length, TooManyRecords}
+use Rattle.refusal.specs.declared.cause.Cause.the-variants.{SheetForm, StationCount, Thresholds, StationNumber, Value, MarkBeyond, Length, TooManyRecords, Width}
 use Rattle.refusal.specs.declared.cause.Verdict.{Verdict}
 use Rattle.refusal.specs.declared.cause.Verdict.the-variants.{Accepted, Refused}
 use Rattle.refusal.proofs.VerdictLaws.{refused-true}
-use Rattle.header.specs.Header.{outside, exceeded, station-count, thresholds, station-number, bit, marks-within, line-verdict, header-verdict, exact-length}
-use Rattle.layout.specs.Layout.{header, most-records}
-use Rattle.judgement.specs.Judgement.{ill-formed, sheet-form, line-and-length, verdict-to-8}
+use Rattle.header.specs.Header.{outside, exceeded, station-count, thresholds, station-number, number-within, marks-within, width, line-verdict, number-verdict, exact-length}
+use Rattle.layout.specs.Layout.{header, tables-wanted, most-records}
+use Rattle.judgement.specs.Judgement.{ill-formed, sheet-form, verdict-to-6, verdict-to-8}
 use Rattle.selection.specs.Places.{how-many}
 use Rattle.writer.specs.Sheet.{sheet-length}
 use Rattle.writer.specs.Judgement.{header-length, header-and-table, too-many, before-buffer, write-verdict}
 
--- ---- verdicts whose numbers are at most 8
+-- ---- verdicts that are not 14
 
-if-most : (b : Bool) (c : Cause) → number c ≤ 8 → code (refused-if b c) ≤ 8
+abbrev Other : Verdict → Type 0
+Other v = code v ≢ 14
+
+if-other : (b : Bool) (c : Cause) → number c ≢ 14 → Other (refused-if b c)
 unfolding refused-if
-if-most true c h = h
-if-most false c h = omega arith
+if-other true c h = h
+if-other false c h = λ e. omega arith
 
-or-most : (v w : Verdict) → code v ≤ 8 → code w ≤ 8 → code (v or-else w) ≤ 8
-or-most Accepted w a b = b
-or-most (Refused c) w a b = a
+or-other : (v w : Verdict) → Other v → Other w → Other (v or-else w)
+or-other Accepted w a b = b
+or-other (Refused c) w a b = a
 
-line-most : (n t T : ℕ) → code (line-verdict n t T) ≤ 8
+line-other : (n t T : ℕ) → Other (line-verdict n t T)
 unfolding line-verdict station-count thresholds
-line-most n t T =
-    or-most (station-count n) (thresholds n t T) (if-most (outside 1 most-stations n) StationCount (omega arith)) (if-most (exceeded n t T) Thresholds (omega arith))
+line-other n t T =
+    or-other (station-count n) (thresholds n t T)
+    (if-other (outside 1 most-stations n) StationCount (λ e. omega arith)) (if-other (exceeded n t T) Thresholds (λ e. omega arith))
 
-rest-most : (n sender value marks : ℕ) → code (station-number n sender or-else bit value or-else marks-within n marks) ≤ 8
-unfolding station-number bit marks-within
-rest-most n sender value marks =
-    or-most (station-number n sender) (bit value or-else marks-within n marks)
-    (if-most (outside 1 n sender) StationNumber (omega arith))
-    (or-most (bit value) (marks-within n marks) (if-most (ltb 1 value) Value (omega arith)) (if-most (mark-beyond n marks) MarkBeyond (omega arith)))
+number-other : (n t T sender number w marks : ℕ) → Other (number-verdict n t T sender number w marks)
+unfolding number-verdict width station-number number-within marks-within
+number-other n t T sender number w marks =
+    or-other (width w) _ (if-other (ltb most-bits w) Width (λ e. omega arith))
+    (or-other (line-verdict n t T) _ (line-other n t T)
+    (or-other (station-number n sender) _ (if-other (outside 1 n sender) StationNumber (λ e. omega arith))
+    (or-other (number-within w number) (marks-within n marks)
+    (if-other (leb (2 ^ bits w) number) Value (λ e. omega arith)) (if-other (mark-beyond n marks) MarkBeyond (λ e. omega arith)))))
 
-header-most : (n t T sender value marks : ℕ) → code (header-verdict n t T sender value marks) ≤ 8
-unfolding header-verdict
-header-most n t T sender value marks = or-most (line-verdict n t T) _ (line-most n t T) (rest-most n sender value marks)
-
-length-most : (wanted found : ℕ) → code (exact-length wanted found) ≤ 8
+length-other : (wanted found : ℕ) → Other (exact-length wanted found)
 unfolding exact-length
-length-most wanted found = if-most _ Length (omega arith)
+length-other wanted found = if-other _ Length (λ e. omega arith)
 
-line-and-length-most : (h : List ℕ) (l : ℕ) → code (line-and-length h l) ≤ 8
-unfolding line-and-length
-line-and-length-most h l =
+to-8-other : (h : List ℕ) (l : ℕ) → Other (verdict-to-8 h l)
+unfolding verdict-to-8 verdict-to-6 sheet-form
+to-8-other h l =
     let g = header h in
-    or-most (header-verdict (g .n) (g .t) (g .upper) (g .sender) (g .value) (g .marks)) (exact-length (table-length (g .n) (g .t)) l)
-    (header-most (g .n) (g .t) (g .upper) (g .sender) (g .value) (g .marks)) (length-most (table-length (g .n) (g .t)) l)
+    or-other (verdict-to-6 h) (exact-length (tables-wanted h) l)
+    (or-other (sheet-form h) _ (if-other (ill-formed h) SheetForm (λ e. omega arith))
+    (number-other (g .n) (g .t) (g .upper) (g .sender) (g .value) (g .w) (g .marks)))
+    (length-other (tables-wanted h) l)
 
-to-8-most : (h : List ℕ) (l : ℕ) → code (verdict-to-8 h l) ≤ 8
-unfolding verdict-to-8 sheet-form
-to-8-most h l = or-most (sheet-form h) (line-and-length h l) (if-most (ill-formed h) SheetForm (omega arith)) (line-and-length-most h l)
-
-taken-most : (h : List ℕ) (l : ℕ) → code (header-and-table h l) ≤ 8
+taken-other : (h : List ℕ) (l : ℕ) → Other (header-and-table h l)
 unfolding header-and-table header-length
-taken-most h l =
-    or-most (header-length h) (verdict-to-8 h l) (if-most (not (eqb (length h) 12)) SheetForm (omega arith)) (to-8-most h l)
+taken-other h l =
+    or-other (header-length h) (verdict-to-8 h l) (if-other (not (eqb (length h) 12)) SheetForm (λ e. omega arith)) (to-8-other h l)
 
 -- ---- cause 14
 
@@ -82,8 +83,8 @@ module _ (h table : List ℕ) (size : ℕ) where
           → (v or-else refused-if b TooManyRecords) or-else exact-length (sheet-length h table) size ≡ Refused TooManyRecords
           → (header-and-table h (length table) ≡ Accepted) × (most-records < how-many (header h) table)
       go Accepted p true q r = (p, ltb-true most-records (how-many (header h) table) q)
-      go Accepted p false q r = absurd (omega (arith, ap code r, length-most (sheet-length h table) size))
-      go (Refused c) p b q r = absurd (omega (arith, ap code r, ap code p, taken-most h (length table)))
+      go Accepted p false q r = absurd (length-other (sheet-length h table) size (ap code r))
+      go (Refused c) p b q r = absurd (taken-other h (length table) (ap code p ∙ ap code r))
 
   -- and the other way
   tells : (header-and-table h (length table) ≡ Accepted) × (most-records < how-many (header h) table) → write-verdict h table size ≡ Refused TooManyRecords

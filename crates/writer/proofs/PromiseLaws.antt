@@ -9,7 +9,8 @@ use lib.Dec.{eqb}
 use lib.ListN.{length, length-append}
 use lib.Seq.{drop-length}
 use borrow.Author.Tests.{eqb-true, ne-eqb, not-false, lt-ltb, le-ltb, ltb-false}
-use Rattle.line.specs.Line.{rounds, table-length}
+use Rattle.line.specs.Line.{rounds}
+use Rattle.line.specs.Width.{tables-length}
 use Rattle.refusal.specs.Cause.{code, written, given}
 use Rattle.refusal.specs.declared.cause.Cause.{Cause}
 use Rattle.refusal.specs.declared.cause.Cause.the-variants.{Length, TooManyRecords}
@@ -19,9 +20,8 @@ use Rattle.refusal.proofs.VerdictLaws.{both-accepted, accepted-false, refused-t
 use Rattle.header.specs.Header.{exact-length}
 use Rattle.header.proofs.HeaderLaws.{length-accepts}
 use Rattle.layout.specs.declared.Header.{Header}
-use Rattle.layout.specs.Layout.{header, spare, most-records}
-use Rattle.judgement.specs.Judgement.{sheet-form, line-and-length, verdict-to-8}
-use Rattle.judgement.proofs.FormLaws.{form-sound}
+use Rattle.layout.specs.Layout.{header, most-records}
+use Rattle.judgement.specs.Judgement.{verdict-to-8}
 use Rattle.sheet.specs.Loops.{SoundHeader}
 use Rattle.sheet.proofs.PromiseLaws.{opening-sound, opening-length}
 use Rattle.text.specs.Laid.{laid}
@@ -58,7 +58,7 @@ length-refused : (wanted found : ℕ) → found ≢ wanted → exact-length want
 unfolding exact-length
 length-refused wanted found e = refused-true Length (rw (ne-eqb found wanted e))
 
--- ---- what causes 1 to 8 let through
+-- ---- what causes 1, 15 and 2 to 8 let through
 
 module _ (h : List ℕ) (l : ℕ) (e : header-and-table h l ≡ verdict.Accepted) where
   pub taken-both : (header-length h ≡ verdict.Accepted) × (verdict-to-8 h l ≡ verdict.Accepted)
@@ -69,14 +69,10 @@ module _ (h : List ℕ) (l : ℕ) (e : header-and-table h l ≡ verdict.Accepted
   unfolding header-length
   taken-twelve = eqb-true (length h) 12 (not-false (eqb (length h) 12) (accepted-false _ _ (taken-both .0)))
 
-  pub taken-spare : spare h ≡ 0
-  unfolding verdict-to-8
-  taken-spare = form-sound h (both-accepted (sheet-form h) (line-and-length h l) (taken-both .1) .0) .spare-zero
-
   pub taken-sound : SoundHeader (header h)
   taken-sound = opening-sound h l (taken-both .1)
 
-  pub taken-length : l ≡ table-length (header h .n) (header h .t)
+  pub taken-length : l ≡ tables-length (header h .n) (header h .t) (header h .w)
   taken-length = opening-length h l (taken-both .1)
 
   pub taken-short : rounds (header h .t) ≤ 36
@@ -203,6 +199,7 @@ module _ (h table : List ℕ) where
         some = taken-sound h (length table) (told-both .0) .some;
         few = taken-sound h (length table) (told-both .0) .most;
         short = taken-short h (length table) (told-both .0);
+        narrow = taken-sound h (length table) (told-both .0) .narrow;
         whole = taken-length h (length table) (told-both .0);
         all = told-records;
         most = omega (arith, told-records, told-few);

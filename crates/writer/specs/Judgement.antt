@@ -17,7 +17,8 @@ use Rattle.writer.specs.Sheet.{sheet-length}
 unfoldable pub header-length : List ℕ → Verdict
 header-length h = refused-if (not (eqb (length h) 12)) SheetForm
 
--- "After the header's causes a table of wrong length is 8": twelve bytes are a sheet without records, and are judged as that, with the table's length
+-- "After the header's causes a table of wrong length is 8": twelve bytes are a sheet without records, and are judged as that, 15 included, with the length of
+-- the tables of all bits
 unfoldable pub header-and-table : List ℕ → ℕ → Verdict
 header-and-table h table-size = header-length h or-else verdict-to-8 h table-size
 

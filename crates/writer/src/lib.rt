@@ -1,4 +1,4 @@
-// The writer of run sheets: a header of any bytes and a run table of any bytes give a sheet in a lent buffer, or the one refusal.
+// The writer of run sheets: a header of any bytes and run tables of any bytes, one for each bit, give a sheet in a lent buffer, or the one refusal.
 ghost use mathlib.Core.Path.{_≡_};
 ghost use lib.ListN.{length};
 ghost use Rattle.refusal.specs.declared.cause.Verdict.the-variants.{Accepted};
@@ -22,7 +22,7 @@ pub enum Writing {
     Refused(Cause),
 }
 
-// Causes 1 to 8, of the header and the table's length.
+// Cause 1 of the header's length, 15 right after it, 2 to 6 of the header, and 8 of the tables' length.
 fn header_and_table(header: &[u8], table_len: usize) -> Verdict
     ensures { λ r. ⌜ r ≡ header-and-table (now (header .entry)) «table_len» ⌝ }
 {
@@ -32,7 +32,7 @@ fn header_and_table(header: &[u8], table_len: usize) -> Verdict
     judgement::to_8(header, table_len)
 }
 
-// How many bytes the sheet of a header and a table needs that causes 1 to 8 let through: cause 14.
+// How many bytes the sheet of a header and its tables needs, where no cause before 14 refuses them: cause 14.
 fn records_needed(header: &[u8], table: &[u8]) -> Need
     requires { ⌜ header-and-table (now header) (length (now table)) ≡ Accepted ⌝ }
     ensures { λ r. ⌜ Needs (now (header .entry)) (now (table .entry)) r ⌝ }
@@ -44,7 +44,7 @@ fn records_needed(header: &[u8], table: &[u8]) -> Need
     Need::Bytes(12 + 8 * k)
 }
 
-// How many bytes the sheet of a header and a table needs, or what writing it is refused by before the buffer is looked at.
+// How many bytes the sheet of a header and its tables needs, or what writing it is refused by before the buffer is looked at.
 pub fn needed(header: &[u8], table: &[u8]) -> Need
     ensures { λ r. ⌜ Needs (now (header .entry)) (now (table .entry)) r ⌝ }
 {
@@ -68,7 +68,7 @@ fn write_needed(header: &[u8], table: &[u8], sheet: &mut [u8], len: usize) -> Wr
     Writing::Written(k)
 }
 
-// Writes the sheet of a header and a table into a lent buffer of the length that it needs.
+// Writes the sheet of a header and its tables into a lent buffer of the length that it needs.
 pub fn write(header: &[u8], table: &[u8], sheet: &mut [u8]) -> Writing
     ensures { λ r. ⌜ Writes (now (header .entry)) (now (table .entry)) (now (sheet .entry)) (now (sheet .exit)) r ⌝ }
 {

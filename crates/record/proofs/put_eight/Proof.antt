@@ -9,14 +9,14 @@ use Rattle.record.proofs.put_eight.Tie as tie
 put-four-requires : tie.Need-put-four-requires
 put-four-requires c κs = search needs
 
+cast-low : tie.Need-cast-low
+cast-low c = search needs
+
+cast-high : tie.Need-cast-high
+cast-high c = search needs
+
 add-put-four : tie.Need-add-put-four
 add-put-four c = search needs
-
-cast-put-four : tie.Need-cast-put-four
-cast-put-four c = search needs
-
-cast-put-four-2 : tie.Need-cast-put-four-2
-cast-put-four-2 c = search needs
 
 put-four-requires-2 : tie.Need-put-four-requires-2
 put-four-requires-2 c κs = search needs
@@ -36,9 +36,9 @@ put-eight-spec =
     tie.close
     (tie.spec
     put-four-requires
+    cast-low
+    cast-high
     add-put-four
-    cast-put-four
-    cast-put-four-2
     put-four-requires-2
     same-length
     returns)

@@ -1,4 +1,4 @@
--- `rewritten` meets its contract: the table and the output are long enough for every sheet.
+-- `rewritten` meets its contract: the tables and the output are long enough for every sheet.
 use borrow.Author.Needs.{needs}
 use Prim.Native.Nat.{ℕ, _≤_}
 use mathlib.Core.Path.{sym, _∙_}
@@ -9,8 +9,8 @@ use Rattle.rewrite.proofs.rewritten.Statement.{statement}
 use Rattle.rewrite.proofs.rewritten.Tie as tie
 
 -- what is lent of the table is within it
-enough : (b r : ℕ) → r ≤ 36864 → r ≤ length (replicate 36864 b)
-enough b r h = omega (arith, length-replicate 36864 b)
+enough : (b r : ℕ) → r ≤ 294912 → r ≤ length (replicate 294912 b)
+enough b r h = omega (arith, length-replicate 294912 b)
 
 room-requires : tie.Need-room-requires
 room-requires c κs = search needs

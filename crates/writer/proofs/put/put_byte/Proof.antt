@@ -2,7 +2,7 @@
 use borrow.Author.Needs.{needs}
 use native.Mathlib.Omega.{arith}
 use mathlib.Core.Path.{_∙_}
-use Rattle.writer.proofs.PutLaws.{spoken-none, spoken-one, put-none, put-there}
+use Rattle.writer.proofs.PutLaws.{next-there, spoken-none, spoken-one, put-none, put-there}
 use Rattle.writer.proofs.put.put_byte.Statement.{statement}
 use Rattle.writer.proofs.put.put_byte.Tie as tie
 
@@ -10,19 +10,22 @@ returns : tie.Need-returns
 returns c =
     let a = c .before .before .args in
     let e = c .if1 .taken in
-    (omega (arith, spoken-none (a .ballot) e), put-none (a .ballot) (a .sheet .now) (a .k) (a .m) (a .round) (a .from) (a .to) e)
+    (omega (arith, spoken-none (a .ballot) e), put-none (a .ballot) (a .sheet .now) (a .k) (a .m) (a .turn) (a .from) (a .to) e)
+
+mul-at : tie.Need-mul-at
+mul-at c = search needs
+
+add-at : tie.Need-add-at
+add-at c = search needs
+
+sub-next-index : tie.Need-sub-next-index
+sub-next-index c = search needs
 
 add-next-index : tie.Need-add-next-index
 add-next-index c = search needs
 
 next-index-requires : tie.Need-next-index-requires
 next-index-requires c κs = search needs
-
-mul-put : tie.Need-mul-put
-mul-put c = search needs
-
-add-put : tie.Need-add-put
-add-put c = search needs
 
 put-requires : tie.Need-put-requires
 put-requires c κs = search needs
@@ -39,18 +42,20 @@ returns-2 c =
     let a = s .args in
     let e = c .before .before .before .before .before .if1 .left in
     let one = spoken-one (a .ballot) e in
-    let w = put-there (a .ballot) (a .sheet .now) (a .k) (a .m) (a .round) (a .from) (a .to) e (omega (arith, s .pre .1, s .pre .2, one)) in
-    (omega (arith, one), rw (c .before .before .before .before .next-index .ensures) at (c .before .before .put .ensures) ∙ w)
+    let next = c .before .before .before .before .next-index .ensures ∙ next-there (a .k) (a .m) _ (s .pre .1) (omega (arith, s .pre .2, one)) in
+    let w = put-there (a .ballot) (a .sheet .now) (a .k) (a .m) (a .turn) (a .from) (a .to) e (omega (arith, s .pre .1, s .pre .2, one)) in
+    (omega (arith, one), rw next at (c .before .before .put .ensures) ∙ w)
 
 pub put-byte-spec : {M : Type 1} → statement M
 put-byte-spec =
     tie.close
     (tie.spec
     returns
+    mul-at
+    add-at
+    sub-next-index
     add-next-index
     next-index-requires
-    mul-put
-    add-put
     put-requires
     add-result
     same-length

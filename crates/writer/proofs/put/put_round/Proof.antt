@@ -7,22 +7,21 @@ use mathlib.Core.Bool.{true}
 use lib.ListN.{length}
 use Rattle.line.specs.Count.{count}
 use Rattle.line.specs.Marks.{marked}
-use Rattle.line.specs.Line.{rounds}
-use Rattle.line.proofs.LineLaws.{product-fits, place-below}
+use Rattle.line.proofs.LineLaws.{product-fits}
 use Rattle.selection.specs.Places.{to-write}
 use Rattle.writer.specs.Loops.{Goes-on}
 use Rattle.selection.proofs.LeapLaws.{leaps-first}
-use Rattle.writer.proofs.RecordLaws.{ready-on, table-short, leapt-first, leapt-on, sender-of}
+use Rattle.writer.proofs.RecordLaws.{ready-on, place-inside, tables-short, leapt-first, leapt-on, sender-of}
 use Rattle.writer.proofs.put.put_round.Statement.{statement}
 use Rattle.writer.proofs.put.put_round.Tie as tie
 
 abbrev Inv-loop : tie.InvT-loop
-Inv-loop h table sheet₀ to k round at m n done₀ i₀ sheet done i =
+Inv-loop h table sheet₀ to k turn at m n done₀ i₀ sheet done i =
     (i ≤ h .n) × (i < h .n → marked (h .marks) i ≡ true) × (length sheet ≡ length sheet₀)
     × (done ≡ count (at + i * h .n) (to-write (h .n) (h .marks) table)) × Goes-on h table k sheet₀ m sheet done
 
 abbrev μ-loop : tie.MeasureT-loop
-μ-loop h table sheet₀ to k round at m n done₀ i₀ sheet done i = h .n - i
+μ-loop h table sheet₀ to k turn at m n done₀ i₀ sheet done i = h .n - i
 
 cast-n : tie.Need-cast-n Inv-loop μ-loop
 cast-n c = search needs
@@ -35,7 +34,7 @@ loop-holds c =
     let s = c .before .before .before .before in
     let a = s .args in
     let f = leaps-first (s .args .h .marks) (s .args .h .n) _ (s .pre .2) (s .pre .0 .few) 0 (omega arith) in
-    (f .high, f .there, refl, leapt-first (a .h) (a .table .now) (a .round) (a .at) (s .pre .1) _ (a .m) f (s .pre .0 .before), λ z e. e)
+    (f .high, f .there, refl, leapt-first (a .h) (a .table .now) (a .turn) (a .at) (s .pre .1) _ (a .m) f (s .pre .0 .before), λ z e. e)
 
 add-put-row : tie.Need-add-put-row Inv-loop μ-loop
 add-put-row c = search needs
@@ -51,10 +50,9 @@ add-put-row-2 c =
     let l = c .before .before .before .loop in
     let s = c .before .before .before .before .before .before .before .before in
     let a = s .args in
-    let o = sender-of (a .h) (a .table .now) (a .round) (a .at) (s .pre .1) (l .i) (omega arith) in
-    let b = place-below (a .h .n) (a .round) (l .i) 0 (o .round-low) (omega arith) (omega arith) (rounds (a .h .t)) (o .round-high) in
-    let z : l .i + 1 - 1 ≡ l .i = omega arith in
-    omega (arith, rw z at (o .at-is), b, table-short _ _ _ _ _ _ (s .pre .0))
+    let o = sender-of (a .h) (a .table .now) (a .turn) (a .at) (s .pre .1) (l .i) (omega arith) in
+    let p = place-inside (a .h) (a .table .now) (a .k) (a .turn) (l .i + 1) (a .at + l .i * a .h .n) o 0 (omega arith) in
+    omega (arith, p, tables-short _ _ _ _ _ _ (s .pre .0))
 
 put-row-requires : tie.Need-put-row-requires Inv-loop μ-loop
 put-row-requires c κs =
@@ -63,7 +61,7 @@ put-row-requires c κs =
     let a = s .args in
     let z : l .i + 1 - 1 ≡ l .i = omega arith in (
       ready-on _ _ _ _ _ _ _ _ _ (s .pre .0) (l .inv .2) (l .inv .3),
-      sender-of (a .h) (a .table .now) (a .round) (a .at) (s .pre .1) (l .i) (omega arith),
+      sender-of (a .h) (a .table .now) (a .turn) (a .at) (s .pre .1) (l .i) (omega arith),
       rw z (l .inv .1 (omega arith)),
     )
 
@@ -92,7 +90,7 @@ loop-again c =
       f .high,
       f .there,
       p .kept .1 .1 .0 ∙ l .inv .2,
-      leapt-on (a .h) (a .table .now) (a .round) (a .at) (s .pre .1) (l .i) _ _ f (p .ensures .0),
+      leapt-on (a .h) (a .table .now) (a .turn) (a .at) (s .pre .1) (l .i) _ _ f (p .ensures .0),
       λ z q. p .ensures .1 z (l .inv .4 z q),
     )
 

@@ -12,11 +12,11 @@ use Rattle.writer.proofs.put.put_row.Statement.{statement}
 use Rattle.writer.proofs.put.put_row.Tie as tie
 
 abbrev Inv-loop : tie.InvT-loop
-Inv-loop h table sheet₀ k round from at m done₀ j₀ sheet done j =
+Inv-loop h table sheet₀ k turn from at m done₀ j₀ sheet done j =
     (j ≤ h .n) × (length sheet ≡ length sheet₀) × (done ≡ count (at + j) (to-write (h .n) (h .marks) table)) × Goes-on h table k sheet₀ m sheet done
 
 abbrev μ-loop : tie.MeasureT-loop
-μ-loop h table sheet₀ k round from at m done₀ j₀ sheet done j = h .n - j
+μ-loop h table sheet₀ k turn from at m done₀ j₀ sheet done j = h .n - j
 
 loop-holds : tie.Need-loop-holds Inv-loop μ-loop
 loop-holds c =
@@ -32,14 +32,14 @@ add-ballot c =
     let s = c .before .before .before .before .before in
     let a = s .args in
     let l = c .before .before .loop in
-    omega (arith, s .pre .0 .whole, place-inside (a .h) (a .table .now) (a .k) (a .round) (a .from) (a .at) (s .pre .1) (l .j) (omega arith))
+    omega (arith, s .pre .0 .whole, place-inside (a .h) (a .table .now) (a .k) (a .turn) (a .from) (a .at) (s .pre .1) (l .j) (omega arith))
 
 shared-slice-read-ballot : tie.Need-shared-slice-read-ballot Inv-loop μ-loop
 shared-slice-read-ballot c =
     let s = c .before .before .before .before .before .before in
     let a = s .args in
     let l = c .before .before .before .loop in
-    omega (arith, s .pre .0 .whole, place-inside (a .h) (a .table .now) (a .k) (a .round) (a .from) (a .at) (s .pre .1) (l .j) (omega arith))
+    omega (arith, s .pre .0 .whole, place-inside (a .h) (a .table .now) (a .k) (a .turn) (a .from) (a .at) (s .pre .1) (l .j) (omega arith))
 
 add-put-byte : tie.Need-add-put-byte Inv-loop μ-loop
 add-put-byte c = search needs
@@ -51,7 +51,7 @@ put-byte-requires c κs =
     let l = c .before .before .before .before .loop in (
       s .pre .0 .most,
       l .inv .1 ∙ s .pre .0 .room,
-      rw (s .pre .0 .all, l .inv .2) (byte-within (a .h) (a .table .now) (a .k) (a .round) (a .from) (a .at) (s .pre .1) (s .pre .2) (l .j) (omega arith)),
+      rw (s .pre .0 .all, l .inv .2) (byte-within (a .h) (a .table .now) (a .k) (a .turn) (a .from) (a .at) (s .pre .1) (s .pre .2) (l .j) (omega arith)),
     )
 
 add-j : tie.Need-add-j Inv-loop μ-loop
@@ -66,8 +66,8 @@ loop-again c =
     let s = c .before .before .before .before .before .before .before .before .before .before in
     let a = s .args in
     let p = c .before .before .put-byte in
-    let counted = byte-counted (a .h) (a .table .now) (a .k) (a .round) (a .from) (a .at) (s .pre .1) (s .pre .2) (l .j) (omega arith) in
-    let on = byte-goes-on (a .h) (a .table .now) (a .k) (a .round) (a .from) (a .at) (s .pre .1) (s .pre .2) (l .j) (omega arith) (l .sheet) (l .done) (l .inv .2) in (
+    let counted = byte-counted (a .h) (a .table .now) (a .k) (a .turn) (a .from) (a .at) (s .pre .1) (s .pre .2) (l .j) (omega arith) in
+    let on = byte-goes-on (a .h) (a .table .now) (a .k) (a .turn) (a .from) (a .at) (s .pre .1) (s .pre .2) (l .j) (omega arith) (l .sheet) (l .done) (l .inv .2) in (
       omega arith,
       p .kept .0 ∙ l .inv .1,
       p .ensures .0 ∙ rw (counted, l .inv .2),
