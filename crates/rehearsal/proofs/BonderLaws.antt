@@ -27,10 +27,10 @@ guaranteed n t T sender value marks v received outcomes accepted B =
     let R = run-of n t T sender value marks received in
     let header = header-sound n t T sender value marks accepted in
     let same = good-outcome R header v (B .values) received outcomes (B .good) (B .received-size) (λ r i j a b c d e. refl) in
-    same-two-threshold n t T (marked marks) (from-0 sender) value _ _ _ _ (λ i g. same i g .0) (λ i g. same i g .2)
+    same-two-threshold 2 n t T (marked marks) (from-0 sender) value _ _ _ _ (λ i g. same i g .0) (λ i g. same i g .2)
     (theorems.demand-3 R (header .fits) (header .value-bit))
 
 pub unflagged-agree : Unflagged-bonders-agree
 unflagged-agree n t T sender value marks v received outcomes accepted B =
-    theorems.unflagged-agree n t T (marked marks) (from-0 sender) value _ _
+    theorems.unflagged-agree 2 n t T (marked marks) (from-0 sender) value _ _
     (guaranteed n t T sender value marks v received outcomes accepted B)

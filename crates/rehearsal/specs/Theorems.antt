@@ -40,7 +40,7 @@ Demand-3-of-bonders =
     (n t T sender value marks : ℕ) (v : ℕ → ℕ) (received outcomes : List ℕ)
     → header-verdict n t T sender value marks ≡ Accepted
     → Bonders n t T sender value marks v received outcomes
-    → TwoThreshold n t T (marked marks) (from-0 sender) value (value-at outcomes) (flag-at outcomes)
+    → TwoThreshold 2 n t T (marked marks) (from-0 sender) value (value-at outcomes) (flag-at outcomes)
 
 -- f at most T, and one good station that doesn't raise its flag: all good stations of such a line decide one value
 abbrev pub Unflagged-bonders-agree : Type 0

@@ -33,7 +33,12 @@ or-else-requires-3 c κs = search needs
 
 returns : tie.Need-returns
 unfolding check-verdict
-returns c = cc
+returns c =
+    let o = c .before .before in
+    let t = o .before .before .before .before in
+    rw (c .or-else3 .ensures .answer-is, c .before .or-else2 .ensures .answer-is, o .or-else .ensures .answer-is)
+    (rw (o .before .exact-length2 .ensures .answer-is, o .before .before .before .exact-length .ensures .answer-is, t .before .station-number .ensures .answer-is)
+    (rw (o .before .before .outcomes-len .ensures, t .table-len .ensures, t .before .before .line-verdict .ensures .answer-is)))
 
 pub judge-spec : {M : Type 1} → statement M
 judge-spec =

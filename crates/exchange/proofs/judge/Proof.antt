@@ -27,7 +27,11 @@ or-else-requires-3 c κs = search needs
 
 returns : tie.Need-returns
 unfolding exchange-verdict
-returns c = cc
+returns c =
+    let o = c .before .before in
+    let i = o .before .before .before in
+    rw (c .or-else3 .ensures .answer-is, c .before .or-else2 .ensures .answer-is, o .or-else .ensures .answer-is)
+    (rw (o .before .judge-lengths .ensures, o .before .before .marks-within .ensures .answer-is, i .judge-inputs .ensures, i .before .line-verdict .ensures .answer-is))
 
 pub judge-spec : {M : Type 1} → statement M
 judge-spec =
