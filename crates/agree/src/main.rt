@@ -7,7 +7,7 @@ use libc::STDIN_FILENO;
 use libc::STDOUT_FILENO;
 
 // The longest listing (`Listing-short` of crate listing).
-const LONGEST: usize = 395;
+const LONGEST: usize = 457;
 
 // The whole listing of a sheet, at the start of the text: with buffers for the largest table and the longest listing nothing is cut.
 fn listed(sheet: &[u8], text: &mut [u8; LONGEST]) -> usize

@@ -4,15 +4,15 @@ use mathlib.Core.Path.{_≡_}
 use mathlib.Core.List.{List}
 use Rattle.refusal.specs.Cause.{code, answer-word}
 use Rattle.refusal.specs.declared.cause.Verdict.{Verdict}
-use Rattle.broadcast.specs.Bytes.{Run}
+use Rattle.number.specs.Numbers.{NumberRun}
 use Rattle.exchange.specs.Promise.{Exchanged}
-use Rattle.rehearsal.specs.Promise.{Rehearsed}
+use Rattle.recipe.specs.Promise.{RehearsedRecipe}
 use Rattle.rules.specs.Rules.{Logged}
 use Rattle.checker.specs.declared.Checked.{Checked}
 use Rattle.checker.specs.declared.Checked.the-variants as checked
 use Rattle.checker.specs.Promise.{checked-number, Checks}
 use Rattle.sheet.specs.declared.Reading.{Reading}
-use Rattle.sheet.specs.Reading.{reading-number, Reads}
+use Rattle.sheet.specs.Reading.{reading-number, Reads, ReadsBit}
 use Rattle.writer.specs.declared.Need.{Need}
 use Rattle.writer.specs.declared.Need.the-variants as need
 use Rattle.writer.specs.declared.Writing.{Writing}
@@ -23,6 +23,12 @@ use Rattle.writer.specs.Writing.{need-number, Needs, writing-number, Writes}
 pub record ReadNumber (s table₀ table₁ : List ℕ) (r : ℕ) : Type 0 where
   pub answer : Reading
   pub reads : Reads s table₀ table₁ answer
+  pub number-is : r ≡ reading-number answer
+
+-- `vembopu_read_bit`: what `sheet::read_bit` promises
+pub record ReadBitNumber (s : List ℕ) (b : ℕ) (table₀ table₁ : List ℕ) (r : ℕ) : Type 0 where
+  pub answer : Reading
+  pub reads : ReadsBit s b table₀ table₁ answer
   pub number-is : r ≡ reading-number answer
 
 -- `vembopu_sheet_len`: what `writer::needed` promises; the bytes below the refusal's number
@@ -45,10 +51,10 @@ pub record WritesWord (h table sheet₀ sheet₁ : List ℕ) (r : ℕ) : Type 0 
   pub writes : Writes h table sheet₀ sheet₁ answer
   pub word-is : r ≡ answer-word (writing-number answer) (writing-word answer)
 
--- `vembopu_rehearse`: what `rehearsal::rehearse` promises
-pub record RehearsedNumber (R : Run) (log₀ log₁ outcomes₀ outcomes₁ : List ℕ) (r : ℕ) : Type 0 where
+-- `vembopu_rehearse`: what `recipe::rehearse` promises
+pub record RehearsedNumber (N : NumberRun) (logs₀ logs₁ outcomes₀ outcomes₁ : List ℕ) (r : ℕ) : Type 0 where
   pub answer : Verdict
-  pub rehearsed : Rehearsed R log₀ log₁ outcomes₀ outcomes₁ answer
+  pub rehearsed : RehearsedRecipe N logs₀ logs₁ outcomes₀ outcomes₁ answer
   pub number-is : r ≡ code answer
 
 -- `vembopu_exchange`: what `exchange::exchange` promises

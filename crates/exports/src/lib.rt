@@ -1,9 +1,9 @@
 // The calls on whole lines for other languages: numbers and byte slices, and the documents' number of the refusal as the answer, 0 where nothing is
 // refused; of the writer's calls and the checker it stands in the highest byte, above what the call gives. Each promises what the call that it passes on
 // promises.
-ghost use Rattle.rehearsal.specs.Promise.{run-of};
+ghost use Rattle.recipe.specs.Promise.{number-run-of};
 ghost use Rattle.checker.specs.Promise.{logged};
-ghost use Rattle.exports.specs.Numbers.{ReadNumber, NeedsWord, WritesWord, RehearsedNumber, ExchangedNumber, ChecksWord};
+ghost use Rattle.exports.specs.Numbers.{ReadNumber, ReadBitNumber, NeedsWord, WritesWord, RehearsedNumber, ExchangedNumber, ChecksWord};
 use checker::Checked;
 use line::Line;
 use refusal::cause;
@@ -11,7 +11,7 @@ use sheet::Reading;
 use writer::Need;
 use writer::Writing;
 
-// Reads a run sheet into a run table.
+// Reads a run sheet into the run tables of all bits.
 #[no_mangle]
 pub extern "C" fn vembopu_read(sheet: &[u8], table: &mut [u8]) -> u8
     ensures { λ r. ⌜ ReadNumber (now (sheet .entry)) (now (table .entry)) (now (table .exit)) r ⌝ }
@@ -23,7 +23,19 @@ pub extern "C" fn vembopu_read(sheet: &[u8], table: &mut [u8]) -> u8
     }
 }
 
-// How many bytes the sheet of a header and a run table needs.
+// Reads one bit's run table of a run sheet.
+#[no_mangle]
+pub extern "C" fn vembopu_read_bit(sheet: &[u8], bit: u8, table: &mut [u8]) -> u8
+    ensures { λ r. ⌜ ReadBitNumber (now (sheet .entry)) bit (now (table .entry)) (now (table .exit)) r ⌝ }
+{
+    let reading = sheet::read_bit(sheet, bit, table);
+    match reading {
+        Reading::Accepted(_) => 0,
+        Reading::Refused(c) => c.number(),
+    }
+}
+
+// How many bytes the sheet of a header and its run tables needs.
 #[no_mangle]
 pub extern "C" fn vembopu_sheet_len(header: &[u8], table: &[u8]) -> u64
     ensures { λ r. ⌜ NeedsWord (now (header .entry)) (now (table .entry)) r ⌝ }
@@ -35,7 +47,7 @@ pub extern "C" fn vembopu_sheet_len(header: &[u8], table: &[u8]) -> u64
     }
 }
 
-// Writes the sheet of a header and a run table.
+// Writes the sheet of a header and its run tables.
 #[no_mangle]
 pub extern "C" fn vembopu_write(header: &[u8], table: &[u8], sheet: &mut [u8]) -> u64
     ensures { λ r. ⌜ WritesWord (now (header .entry)) (now (table .entry)) (now (sheet .entry)) (now (sheet .exit)) r ⌝ }
@@ -47,7 +59,7 @@ pub extern "C" fn vembopu_write(header: &[u8], table: &[u8], sheet: &mut [u8]) -
     }
 }
 
-// Rehearses a broadcast.
+// Rehearses a recipe number of w bits.
 #[no_mangle]
 pub extern "C" fn vembopu_rehearse(
     n: u8,
@@ -55,17 +67,19 @@ pub extern "C" fn vembopu_rehearse(
     upper: u8,
     sender: u8,
     value: u8,
+    w: u8,
     marks: u32,
     table: &[u8],
     log: &mut [u8],
     outcomes: &mut [u8],
 ) -> u8
-    ensures { λ r. ⌜ RehearsedNumber (run-of n t upper sender value marks (now (table .entry))) (now (log .entry)) (now (log .exit)) (now (outcomes .entry)) (now (outcomes .exit)) r ⌝ }
+    ensures { λ r. ⌜ RehearsedNumber (number-run-of n t upper sender value w marks (now (table .entry))) (now (log .entry)) (now (log .exit)) (now (outcomes .entry)) (now (outcomes .exit)) r ⌝ }
 {
-    let verdict = rehearsal::rehearse(
+    let verdict = recipe::rehearse(
         Line { n, t, upper },
         sender,
         value,
+        w,
         marks,
         table,
         log,

@@ -4,21 +4,21 @@ use mathlib.Core.Path.{_≡_, refl, sym, _∙_}
 use mathlib.Core.List.{List}
 use native.Mathlib.Omega.{arith}
 use lib.ListN.{length}
-use Rattle.line.specs.Line.{table-length}
-use Rattle.refusal.specs.Cause.{_or-else_}
+use Rattle.line.proofs.WidthLaws.{bits-some}
 use Rattle.refusal.specs.declared.cause.Cause.{Cause}
 use Rattle.refusal.specs.declared.cause.Verdict.{Verdict}
 use Rattle.refusal.specs.declared.cause.Verdict.the-variants as verdict
-use Rattle.header.specs.Header.{header-verdict}
-use Rattle.header.proofs.HeaderLaws.{header-sound}
+use Rattle.refusal.proofs.VerdictLaws.{both-accepted}
+use Rattle.header.proofs.HeaderLaws.{number-sound}
 use Rattle.layout.specs.declared.Header.{Header}
-use Rattle.layout.specs.Layout.{header}
+use Rattle.layout.specs.Layout.{header, table-wanted, tables-wanted}
 use Rattle.layout.specs.Chain.{Fate}
-use Rattle.judgement.specs.Judgement.{sheet-form, line-and-length, verdict-to-8, chain-verdict, sheet-verdict}
+use Rattle.judgement.specs.Judgement.{sheet-form, verdict-to-6, verdict-to-8, bit-to-8, sheet-verdict, bit-verdict}
 use Rattle.sheet.specs.declared.Reading.{Reading}
 use Rattle.sheet.specs.declared.Reading.the-variants as reading
-use Rattle.sheet.specs.Reading.{reading-by, Reads}
+use Rattle.sheet.specs.Reading.{reading-by, Reads, ReadsBit}
 use Rattle.sheet.specs.Loops.{SoundHeader}
+use Rattle.sheet.proofs.Theorems.{judged-either-way}
 use Rattle.lines.specs.Lines as lines
 
 -- ---- the reader's answer
@@ -38,29 +38,47 @@ module _ (s table₀ table₁ : List ℕ) {answer : Reading} (r : Reads s table�
   pub read-refused : (c : Cause) → answer ≡ reading.Refused c → sheet-verdict s (length table₀) (r .fate) ≡ verdict.Refused c
   read-refused c e = told-refused (sheet-verdict s (length table₀) (r .fate)) c (header s) (sym e ∙ r .answer-is)
 
+-- and that of the reader of one bit
+module _ (s : List ℕ) (b : ℕ) (table₀ table₁ : List ℕ) {answer : Reading} (r : ReadsBit s b table₀ table₁ answer) where
+  pub bit-accepted : (h : Header) → answer ≡ reading.Accepted h → (bit-verdict s b (length table₀) (r .fate) ≡ verdict.Accepted) × (h ≡ header s)
+  bit-accepted h e = told-accepted (bit-verdict s b (length table₀) (r .fate)) h (header s) (sym e ∙ r .answer-is)
+
+  pub bit-refused : (c : Cause) → answer ≡ reading.Refused c → bit-verdict s b (length table₀) (r .fate) ≡ verdict.Refused c
+  bit-refused c e = told-refused (bit-verdict s b (length table₀) (r .fate)) c (header s) (sym e ∙ r .answer-is)
+
 -- ---- the lent table's length
 
--- what is refused stays refused
-refused-stays : (a : Verdict) (c : Cause) (b : Verdict) → (a or-else verdict.Refused c) or-else b ≡ a or-else verdict.Refused c
-refused-stays verdict.Accepted c b = refl
-refused-stays (verdict.Refused d) c b = refl
+-- what causes 1 to 6 and 15 let through has a sound header
+pub sound-to-6 : (s : List ℕ) → verdict-to-6 s ≡ verdict.Accepted → SoundHeader (header s)
+unfolding verdict-to-6
+sound-to-6 s e =
+    number-sound (header s .n) (header s .t) (header s .upper) (header s .sender) (header s .value) (header s .w) (header s .marks)
+    (both-accepted (sheet-form s) _ e .1)
 
 module _ (s : List ℕ) (fate : Fate s) where
-  -- the verdict of causes 2 to 6
-  headed : Verdict
-  headed = header-verdict (header s .n) (header s .t) (header s .upper) (header s .sender) (header s .value) (header s .marks)
+  -- what they refuse is refused, whatever is lent
+  all-refused : (c : Cause) → verdict-to-6 s ≡ verdict.Refused c → (l : ℕ) → sheet-verdict s l fate ≡ verdict.Refused c
+  unfolding sheet-verdict verdict-to-8
+  all-refused c e l = rw e
 
-  -- what they refuse is refused by 1 to 6, whatever is lent
-  refused-early : (c : Cause) → headed ≡ verdict.Refused c → (l : ℕ) → sheet-verdict s l fate ≡ sheet-form s or-else verdict.Refused c
-  unfolding sheet-verdict verdict-to-8 line-and-length headed
-  refused-early c e l = rw e (refused-stays (sheet-form s) c (chain-verdict s fate))
+  one-refused : (c : Cause) → verdict-to-6 s ≡ verdict.Refused c → (b l : ℕ) → bit-verdict s b l fate ≡ verdict.Refused c
+  unfolding bit-verdict bit-to-8
+  one-refused c e b l = rw e
 
-  -- so where what is lent to a sound header has the line's length, the verdict is the sheet's own
-  pub verdict-same : (lent : ℕ) → (SoundHeader (header s) → lent ≡ table-length (header s .n) (header s .t)) → sheet-verdict s lent fate ≡ lines.verdict s fate
-  unfolding lines.verdict headed
-  verdict-same lent whole = go headed refl
+  -- so where what is lent to a sound header has its length, the verdict is the sheet's own
+  pub verdict-same : (lent : ℕ) → (SoundHeader (header s) → lent ≡ tables-wanted s) → sheet-verdict s lent fate ≡ lines.verdict s fate
+  unfolding lines.verdict
+  verdict-same lent whole = go (verdict-to-6 s) refl
     where
-      go : (v : Verdict) → headed ≡ v → sheet-verdict s lent fate ≡ sheet-verdict s (table-length (header s .n) (header s .t)) fate
-      go verdict.Accepted e =
-          rw (whole (header-sound (header s .n) (header s .t) (header s .upper) (header s .sender) (header s .value) (header s .marks) e))
-      go (verdict.Refused c) e = rw (refused-early c e lent, refused-early c e (table-length (header s .n) (header s .t)))
+      go : (v : Verdict) → verdict-to-6 s ≡ v → sheet-verdict s lent fate ≡ sheet-verdict s (tables-wanted s) fate
+      go verdict.Accepted e = rw (whole (sound-to-6 s e))
+      go (verdict.Refused c) e = rw (all-refused c e lent, all-refused c e (tables-wanted s))
+
+  -- and so where the first bit is read
+  pub bit-verdict-same : (lent : ℕ) → (SoundHeader (header s) → lent ≡ table-wanted s) → bit-verdict s 0 lent fate ≡ lines.verdict s fate
+  unfolding lines.verdict
+  bit-verdict-same lent whole = go (verdict-to-6 s) refl
+    where
+      go : (v : Verdict) → verdict-to-6 s ≡ v → bit-verdict s 0 lent fate ≡ sheet-verdict s (tables-wanted s) fate
+      go verdict.Accepted e = rw (whole (sound-to-6 s e)) (judged-either-way s fate 0 (bits-some (header s .w)))
+      go (verdict.Refused c) e = rw (one-refused c e 0 lent, all-refused c e (tables-wanted s))

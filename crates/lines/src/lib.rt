@@ -8,7 +8,6 @@ ghost use Rattle.lines.specs.Lines.{num, dash, refused, first-line, stat
 ghost use Rattle.lines.specs.Text.{line-text, text};
 use layout::Header;
 use line::Line;
-use line::marks;
 
 // The first line of a listing.
 fn first_line(out: &mut [u8], header: Header) -> usize
@@ -48,32 +47,31 @@ fn good_line(out: &mut [u8], at: usize, i: u8, v: u8, g: u8, f: u8, k: u8) -> us
     text::byte(out, e, b'\n')
 }
 
-// The line of the station counted i from 0. What the outcomes lack is shown as 0.
-fn station_line(out: &mut [u8], at: usize, header: Header, outcomes: &[u8], i: u8) -> usize
-    requires { ⌜ i < header .n ⌝ }
-    ensures { λ r. ⌜ Puts (now (out .entry)) (now (out .exit)) at (line-text (station-line header (now (outcomes .entry)) i)) r ⌝ }
+// The line of the station counted i from 0, which is bad where its grade is 255. What the outcomes lack is shown as 0.
+fn station_line(out: &mut [u8], at: usize, outcomes: &[u8], i: u8) -> usize
+    requires { ⌜ i < 255 ⌝ }
+    ensures { λ r. ⌜ Puts (now (out .entry)) (now (out .exit)) at (line-text (station-line (now (outcomes .entry)) i)) r ⌝ }
 {
     let number = i + 1;
-    if marks::is_marked(header.marks, i) {
+    let first = Line::OUTCOME * (i as usize);
+    let g = text::at(outcomes, first + 1);
+    if g == 255 {
         return bad_line(out, at, number);
     }
-    let first = Line::OUTCOME * (i as usize);
     let v = text::at(outcomes, first);
-    let g = text::at(outcomes, first + 1);
     let f = text::at(outcomes, first + 2);
     let k = text::at(outcomes, first + 3);
     good_line(out, at, number, v, g, f, k)
 }
 
 // A line for each station.
-fn station_lines(out: &mut [u8], at: usize, header: Header, outcomes: &[u8]) -> usize
-    ensures { λ r. ⌜ Puts (now (out .entry)) (now (out .exit)) at (text (station-lines header (now (outcomes .entry)) 0 (header .n))) r ⌝ }
+fn station_lines(out: &mut [u8], at: usize, n: u8, outcomes: &[u8]) -> usize
+    ensures { λ r. ⌜ Puts (now (out .entry)) (now (out .exit)) at (text (station-lines (now (outcomes .entry)) 0 n)) r ⌝ }
 {
-    let n = header.n;
     let mut place = at;
     let mut i: u8 = 0;
     while i < n {
-        place = station_line(out, place, header, outcomes, i);
+        place = station_line(out, place, outcomes, i);
         i += 1;
     }
     place
@@ -84,7 +82,7 @@ pub fn of_run(out: &mut [u8], header: Header, outcomes: &[u8]) -> usize
     ensures { λ r. ⌜ Puts (now (out .entry)) (now (out .exit)) 0 (text (lines-by Accepted header (now (outcomes .entry)))) r ⌝ }
 {
     let a = first_line(out, header);
-    station_lines(out, a, header, outcomes)
+    station_lines(out, a, header.n, outcomes)
 }
 
 // The one line of a refusal.

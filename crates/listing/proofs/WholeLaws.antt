@@ -7,20 +7,20 @@ use native.Mathlib.Nat.{min-eq-left, le-trans}
 use lib.ListN.{length}
 use Rattle.line.specs.Line.{largest-table}
 use Rattle.line.proofs.LineLaws.{table-bound}
-use Rattle.layout.specs.Layout.{header}
+use Rattle.layout.specs.Layout.{header, table-wanted}
 use Rattle.layout.specs.Chain.{Fate}
 use Rattle.sheet.specs.Loops.{SoundHeader}
 use Rattle.lines.specs.Lines.{lines}
 use Rattle.lines.specs.Text.{text}
-use Rattle.lines.proofs.VerdictLaws.{verdict-same}
-use Rattle.listing.specs.Promise.{wanted, front, listing}
+use Rattle.lines.proofs.VerdictLaws.{bit-verdict-same}
+use Rattle.listing.specs.Promise.{front, listing}
 use Rattle.listing.specs.Theorems.{Listing-fits}
 use Rattle.text.proofs.LaidLaws.{laid-whole, laid-length}
 use Rattle.listing.proofs.LengthLaws.{listing-short}
 
 module _ (s : List ℕ) (fate : Fate s) where
   -- a sound header's table fits the largest
-  front-wanted : SoundHeader (header s) → (table log : ℕ) → largest-table ≤ table → largest-table ≤ log → front s table log ≡ wanted s
+  front-wanted : SoundHeader (header s) → (table log : ℕ) → largest-table ≤ table → largest-table ≤ log → front s table log ≡ table-wanted s
   unfolding front
   front-wanted sound table log ht hl =
       let fits = table-bound (header s .n) (header s .t) (header s .upper) (sound .most) (sound .fits) in
@@ -29,7 +29,7 @@ module _ (s : List ℕ) (fate : Fate s) where
   module _ (table log : ℕ) (ht : largest-table ≤ table) (hl : largest-table ≤ log) where
     pub listing-whole : listing s (front s table log) fate ≡ text (lines s fate)
     unfolding listing lines
-    listing-whole = rw (verdict-same s fate (front s table log) (λ sound. front-wanted sound table log ht hl))
+    listing-whole = rw (bit-verdict-same s fate (front s table log) (λ sound. front-wanted sound table log ht hl))
 
 pub listing-fits : Listing-fits
 listing-fits s table₀ table₁ log₀ log₁ text₀ text₁ answer r ht hl hx =

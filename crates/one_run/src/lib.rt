@@ -18,11 +18,11 @@ fn decide(h: Header, table: &[u8], log: &mut [u8], outcomes: &mut [u8]) {
         t: h.t,
         upper: h.upper,
     };
-    let verdict = rehearsal::rehearse(line, h.sender, h.value, h.marks, table, log, outcomes);
+    let verdict = recipe::rehearse(line, h.sender, h.value, h.w, h.marks, table, log, outcomes);
     print::rehearsal(verdict.code(), log, outcomes);
 }
 
-// Lends a log of the table's length and the outcomes of n stations.
+// Lends logs of the tables' length and the outcomes of n stations.
 fn accepted(h: Header, table: &[u8], lent: u16) {
     print::header(h, table);
     let mut log = sevens();

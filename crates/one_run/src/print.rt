@@ -21,13 +21,14 @@ fn table(table: &[u8]) {
     number(checksum(table));
 }
 
-// An accepted sheet: n, t, T, sender, value and marks.
+// An accepted sheet: n, t, T, sender, value, w and marks.
 pub(crate) fn header(h: Header, lent: &[u8]) {
     number(h.n as u64);
     number(h.t as u64);
     number(h.upper as u64);
     number(h.sender as u64);
     number(h.value as u64);
+    number(h.w as u64);
     number(h.marks as u64);
     table(lent);
 }

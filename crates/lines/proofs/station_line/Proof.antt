@@ -1,15 +1,25 @@
 -- `station_line` meets its contract, by whether the station is bad.
-use borrow.Author.Needs.{needs}
-use mathlib.Core.Path.{sym, _∙_}
+use mathlib.Core.Logic.{_≢_}
+use Rattle.line.specs.Line.{outcome-size}
 use Rattle.lines.proofs.LineLaws.{bad-shown, good-shown}
+use borrow.Author.Needs.{needs}
+use Prim.Native.Nat.{_+_, _*_}
+use mathlib.Core.Path.{sym, _∙_}
+use lib.ListN.{getD}
 use Rattle.lines.proofs.station_line.Statement.{statement}
 use Rattle.lines.proofs.station_line.Tie as tie
 
 add-number : tie.Need-add-number
 add-number c = search needs
 
-is-marked-requires : tie.Need-is-marked-requires
-is-marked-requires c κs = search needs
+mul-first : tie.Need-mul-first
+mul-first c = search needs
+
+add-at : tie.Need-add-at
+add-at c = search needs
+
+at-requires : tie.Need-at-requires
+at-requires c κs = search needs
 
 bad-line-requires : tie.Need-bad-line-requires
 bad-line-requires c κs = search needs
@@ -19,17 +29,10 @@ same-length c = search needs
 
 returns : tie.Need-returns
 returns c =
-    let a = c .before .before .before .before .before .before .before .before .args in
-    rw (bad-shown (a .header) (a .outcomes .now) (a .i) (sym (c .before .before .before .before .before .is-marked .ensures) ∙ c .before .before .before .before .if1 .taken)) (c .before .before .bad-line .ensures)
-
-mul-first : tie.Need-mul-first
-mul-first c = search needs
-
-at-requires : tie.Need-at-requires
-at-requires c κs = search needs
-
-add-at : tie.Need-add-at
-add-at c = search needs
+    let b = c .before .before in
+    let i = b .before .before in
+    let s = i .before .before .before .before in
+    rw (bad-shown (s .args .outcomes .now) (s .args .i) (sym (i .before .at .ensures) ∙ i .if1 .taken)) (b .bad-line .ensures)
 
 at-requires-2 : tie.Need-at-requires-2
 at-requires-2 c κs = search needs
@@ -54,22 +57,23 @@ same-length-2 c = search needs
 
 returns-2 : tie.Need-returns-2
 returns-2 c =
-    let a = c .before .before .before .before .before .before .before .before .before .before .before .before .args in
     let t = c .before .before .before .before in
-    rw (good-shown (a .header) (a .outcomes .now) (a .i) (sym (t .before .before .before .before .before .is-marked .ensures) ∙ t .before .before .before .before .if1 .left), ← t .before .before .before .at .ensures, ← t .before .before .at2 .ensures, ← t .before .at3 .ensures, ← t .at4 .ensures) (c .before .before .good-line .ensures)
+    let i = t .before .before .before in
+    let s = i .before .before .before .before in
+    let good : getD (s .args .outcomes .now) (outcome-size * s .args .i + 1) 0 ≢ 255 = λ e. i .if1 .left (i .before .at .ensures ∙ e) in
+    rw (good-shown (s .args .outcomes .now) (s .args .i) good, ← i .before .at .ensures, ← t .before .before .at2 .ensures, ← t .before .at3 .ensures, ← t .at4 .ensures) (c .before .before .good-line .ensures)
 
 pub station-line-spec : {M : Type 1} → statement M
 station-line-spec =
     tie.close
     (tie.spec
     add-number
-    is-marked-requires
+    mul-first
+    add-at
+    at-requires
     bad-line-requires
     same-length
     returns
-    mul-first
-    at-requires
-    add-at
     at-requires-2
     add-at-2
     at-requires-3

@@ -12,10 +12,10 @@ use Rattle.lines.proofs.station_lines.Statement.{statement}
 use Rattle.lines.proofs.station_lines.Tie as tie
 
 abbrev Inv-loop : tie.InvT-loop
-Inv-loop out₀ at header outcomes n place₀ i₀ out place i = (i ≤ header .n) × (Puts out₀ out at (text (station-lines header outcomes 0 i)) place)
+Inv-loop out₀ at n outcomes place₀ i₀ out place i = (i ≤ n) × (Puts out₀ out at (text (station-lines outcomes 0 i)) place)
 
 abbrev μ-loop : tie.MeasureT-loop
-μ-loop out₀ at header outcomes n place₀ i₀ out place i = header .n - i
+μ-loop out₀ at n outcomes place₀ i₀ out place i = n - i
 
 loop-holds : tie.Need-loop-holds Inv-loop μ-loop
 unfolding station-lines
@@ -34,14 +34,14 @@ loop-again : tie.Need-loop-again Inv-loop μ-loop
 loop-again c =
     let line = c .before .before .station-line .ensures in
     let inv = c .before .before .before .before .before .loop .inv in
-    (omega arith, lines-turn _ _ _ (inv .1) line)
+    (omega arith, lines-turn _ _ (inv .1) line)
 
 same-length : tie.Need-same-length Inv-loop μ-loop
 same-length c = puts-length (c .before .loop .inv .1)
 
 returns : tie.Need-returns Inv-loop μ-loop
 returns c =
-    let all : c .before .loop .i ≡ c .before .before .before .before .args .header .n = omega arith in
+    let all : c .before .loop .i ≡ c .before .before .before .before .args .n = omega arith in
     rw all at (c .before .loop .inv .1)
 
 pub station-lines-spec : {M : Type 1} → statement M
