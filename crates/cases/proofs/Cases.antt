@@ -1,24 +1,27 @@
--- Every row of both tables holds: by computation, from the definitions that the calls promise. Assumes nothing.
+-- Every row of the three tables holds: by computation, from the definitions that the calls promise. Assumes nothing.
 use mathlib.Core.Path.{refl}
 use Rattle.line.specs.Count.{count}
 use Rattle.line.specs.Line.{place}
 use Rattle.line.specs.Marks.{marked, mark-beyond}
 use Rattle.line.specs.Ballot.{bit-round, blank-round, read-sender, read-first, read-second, read-king, sender-value, first-value, second-value, king-value}
 use Rattle.refusal.specs.Cause.{refused-if}
-use Rattle.header.specs.Header.{outside, station-count, exceeded, thresholds, station-number, bit, marks-within, exact-length, line-verdict, header-verdict}
+use Rattle.line.specs.Width.{bits, bit-of, part-of}
+use Rattle.header.specs.Header.{outside, station-count, exceeded, thresholds, station-number, marks-within, exact-length, line-verdict, width, number-within, number-verdict}
 use Rattle.broadcast.specs.Exchange.{tally, firsts, seconds, z-from, z-of, y-from, y-of, grade-of, flag-of, sends, first-row, z, second-row, y, grade}
 use Rattle.broadcast.specs.Broadcast.{phases, first-round, obey, x-after, y-after, grade-after, value-of, final-grade, final-flag, z-after, part, speaks, spoken, said, sent}
 use Rattle.broadcast.specs.Garbled.{reading, garbled-ballots, some-garbled, received, garbled-in, garbled-rounds}
 use Rattle.broadcast.specs.Station.{at}
 use Rattle.broadcast.specs.Bytes.{tabulate, setting, pick, outcome-byte, outcome-bytes, outcomes}
-use Rattle.layout.specs.Layout.{byte, two, four, header, spare, first, records, start, round, from, to, ballot, next, rest}
+use Rattle.number.specs.Digits.{number-of, smaller, smallest, either, any, larger, largest}
+use Rattle.number.specs.Numbers as number
+use Rattle.layout.specs.Layout.{byte, two, four, header, first, records, start, round, from, to, ballot, next, bit, rest}
 use Rattle.layout.specs.Chain.{is-record, after, reached}
-use Rattle.judgement.specs.Judgement.{ill-formed, sheet-form, line-and-length, verdict-to-8, misplaced, record-form, unmarked-sender, same-place, taken-before, duplicate, record-verdict, records-verdict, sheet-verdict}
+use Rattle.judgement.specs.Judgement.{ill-formed, sheet-form, verdict-to-6, verdict-to-8, misplaced, record-form, unmarked-sender, same-place, taken-before, duplicate, record-verdict, records-verdict, sheet-verdict}
 use Rattle.sheet.specs.Reading.{place-of, filled}
 use Rattle.layout.proofs.ChainLaws.{kind, walk, fate}
 use Rattle.lines.specs.Lines.{station-line, station-lines, verdict, lines}
 use Rattle.text.specs.Decimal.{decimal}
-use Rattle.selection.specs.Places.{round-at, from-at, to-at, to-write, how-many, ranked, place-written}
+use Rattle.selection.specs.Places.{bit-at, round-at, from-at, to-at, to-write, how-many, ranked, place-written}
 use Rattle.record.specs.Bytes.{low, high, first-index, header-bytes, eight}
 use Rattle.writer.specs.Sheet.{next-index, record-of, record-bytes, records-bytes, sheet}
 use Rattle.normal.specs.Normal.{rewritten}
@@ -26,14 +29,15 @@ use Rattle.normal.specs.Output.{output}
 use Rattle.cases.specs.Table.{All}
 use Rattle.cases.specs.Cases.{cases}
 use Rattle.cases.specs.Further.{further}
+use Rattle.cases.specs.Numbers.{numbers}
 
 infixr 5 _then_
 _then_ : {A B : Type 0} → A → B → A × B
 a then b = (a, b)
 
-both-hold : All cases × All further
-unfolding count place marked bit-round blank-round read-sender read-first read-second read-king sender-value first-value second-value king-value refused-if outside station-count exceeded thresholds station-number bit mark-beyond marks-within exact-length line-verdict header-verdict tally firsts seconds z-from z-of y-from y-of grade-of flag-of sends first-row z second-row y grade phases first-round obey x-after y-after grade-after value-of final-grade final-flag z-after part speaks spoken said sent reading garbled-ballots some-garbled received garbled-in garbled-rounds at tabulate setting pick outcome-byte outcome-bytes outcomes byte two four header spare first records start round from to ballot next rest is-record after reached ill-formed sheet-form line-and-length verdict-to-8 misplaced record-form unmarked-sender same-place taken-before duplicate record-verdict records-verdict sheet-verdict place-of filled kind walk fate station-line station-lines verdict lines decimal round-at from-at to-at to-write how-many ranked place-written low high first-index header-bytes eight next-index record-of record-bytes records-bytes sheet rewritten output
-both-hold = (
+all-hold : All cases × All further × All numbers
+unfolding count place marked bit-round blank-round read-sender read-first read-second read-king sender-value first-value second-value king-value refused-if outside station-count exceeded thresholds station-number mark-beyond marks-within exact-length line-verdict width number-within number-verdict bits bit-of part-of number-of smaller smallest either any larger largest number.bit-run number.numbers number.grades number.flags number.counts number.stations number.gathered number.bit-outcomes number.number-outcomes tally firsts seconds z-from z-of y-from y-of grade-of flag-of sends first-row z second-row y grade phases first-round obey x-after y-after grade-after value-of final-grade final-flag z-after part speaks spoken said sent reading garbled-ballots some-garbled received garbled-in garbled-rounds at tabulate setting pick outcome-byte outcome-bytes outcomes byte two four header first records start round from to ballot next bit rest is-record after reached ill-formed sheet-form verdict-to-6 verdict-to-8 misplaced record-form unmarked-sender same-place taken-before duplicate record-verdict records-verdict sheet-verdict place-of filled kind walk fate station-line station-lines verdict lines decimal bit-at round-at from-at to-at to-write how-many ranked place-written low high first-index header-bytes eight next-index record-of record-bytes records-bytes sheet rewritten output
+all-hold = (
   (fate _, refl)
       then (fate _, refl)
       then (fate _, refl)
@@ -62,6 +66,42 @@ both-hold = (
       then (fate _, refl)
       then (fate _, refl)
       then (fate _, refl)
+      then (fate _, refl)
+      then (fate _, refl)
+      then (fate _, refl)
+      then (fate _, refl)
+      then (fate _, refl)
+      then (fate _, refl)
+      then (fate _, refl)
+      then (fate _, refl)
+      then (fate _, refl)
+      then (fate _, refl)
+      then (fate _, refl)
+      then (fate _, refl)
+      then (fate _, refl)
+      then (fate _, refl)
+      then (fate _, refl)
+      then (fate _, refl)
+      then (fate _, refl)
+      then (fate _, refl)
+      then (fate _, refl)
+      then (fate _, refl)
+      then (fate _, refl)
+      then (fate _, refl)
+      then (fate _, refl)
+      then (fate _, refl)
+      then (fate _, refl)
+      then (fate _, refl)
+      then (fate _, refl)
+      then (fate _, refl)
+      then (fate _, refl)
+      then (fate _, refl)
+      then (fate _, refl)
+      then (fate _, refl)
+      then (fate _, refl)
+      then (fate _, refl)
+      then tt,
+  (fate _, refl)
       then (fate _, refl)
       then (fate _, refl)
       then (fate _, refl)
@@ -100,7 +140,10 @@ both-hold = (
 )
 
 pub cases-hold : All cases
-cases-hold = both-hold .0
+cases-hold = all-hold .0
 
 pub further-hold : All further
-further-hold = both-hold .1
+further-hold = all-hold .1
+
+pub numbers-hold : All numbers
+numbers-hold = all-hold .2

@@ -129,7 +129,7 @@ two-digits = record {
       ++ (49 ∷ 49 ∷ 32 ∷ 49 ∷ 32 ∷ 48 ∷ 32 ∷ 49 ∷ 32 ∷ 48 ∷ 10 ∷ []));
 }
 
--- every number of the first line has two digits, and all stations are marked: a listing of 364 bytes, where 395 is the most (`Listing-short` of crate listing)
+-- every number of the first line has two digits, and all stations are marked: a listing of 364 bytes, where 457 is the most (`Listing-short` of crate listing)
 abbrev pub long : Case
 long = record {
   sheet = 32 ∷ 10 ∷ 10 ∷ 32 ∷ 1 ∷ 0 ∷ 0 ∷ 0 ∷ 255 ∷ 255 ∷ 255 ∷ 255 ∷ [];
@@ -196,7 +196,7 @@ further =
     -- 6: "a mark beyond station n"
     ∷ headed 1 1 16 (refused-by 6)
     -- "The lowest number wins up to 8.": 1 and 2 both hold, 2 and 3, 3 and 4, 4 and 5, 5 and 6
-    ∷ record { sheet = 0 ∷ 1 ∷ 1 ∷ 1 ∷ 1 ∷ 1 ∷ 0 ∷ 0 ∷ 8 ∷ 0 ∷ 0 ∷ 0 ∷ []; comes-out = refused-by 1 }
+    ∷ record { sheet = head 0 1 1 1 1 0 8 ++ 0 ∷ []; comes-out = refused-by 1 }
     ∷ record { sheet = head 33 2 1 1 1 0 8; comes-out = refused-by 2 }
     ∷ record { sheet = head 4 2 1 5 1 0 8; comes-out = refused-by 3 }
     ∷ headed 5 2 8 (refused-by 4)
@@ -205,7 +205,8 @@ further =
     ∷ record { sheet = head 4 1 1 1 1 1 16; comes-out = refused-by 6 }
     ∷ chained 1 (rec 0 4 1 1 2) (refused-by 9)
     ∷ chained 1 (rec 0 4 1 1 1) (refused-by 10)
-    -- 11: "a record's round outside 1 to R, a station outside 1 to n, or its last two bytes not zero": round 0 and 10, from 0 and 5, to 0 and 5, each last byte
+    -- 11: "a record's round outside 1 to R, a station outside 1 to n", and request 5: a bit, "11 wants only record byte 7 to be zero": round 0 and 10, from 0 and 5,
+    -- to 0 and 5, bit 1 of one bit, the last byte
     ∷ chained 1 (rec 0 4 1 1 0) (refused-by 11)
     ∷ chained 1 (rec 10 4 1 1 0) (refused-by 11)
     ∷ chained 1 (rec 1 0 1 1 0) (refused-by 11)

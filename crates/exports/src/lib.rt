@@ -1,6 +1,8 @@
 // The calls on whole lines for other languages: numbers and byte slices, and the documents' number of the refusal as the answer, 0 where nothing is
 // refused; of the writer's calls and the checker it stands in the highest byte, above what the call gives. Each promises what the call that it passes on
 // promises.
+ghost use mathlib.Core.Path.{_≡_};
+ghost use Rattle.sheet.specs.Reading.{reading-number};
 ghost use Rattle.recipe.specs.Promise.{number-run-of};
 ghost use Rattle.checker.specs.Promise.{logged};
 ghost use Rattle.exports.specs.Numbers.{ReadNumber, ReadBitNumber, NeedsWord, WritesWord, RehearsedNumber, ExchangedNumber, ChecksWord};
@@ -11,16 +13,23 @@ use sheet::Reading;
 use writer::Need;
 use writer::Writing;
 
+// The number of what a reader answers.
+fn number_of(reading: Reading) -> u8
+    ensures { λ r. ⌜ r ≡ reading-number reading ⌝ }
+{
+    match reading {
+        Reading::Accepted(_) => 0,
+        Reading::Refused(c) => c.number(),
+    }
+}
+
 // Reads a run sheet into the run tables of all bits.
 #[no_mangle]
 pub extern "C" fn vembopu_read(sheet: &[u8], table: &mut [u8]) -> u8
     ensures { λ r. ⌜ ReadNumber (now (sheet .entry)) (now (table .entry)) (now (table .exit)) r ⌝ }
 {
     let reading = sheet::read(sheet, table);
-    match reading {
-        Reading::Accepted(_) => 0,
-        Reading::Refused(c) => c.number(),
-    }
+    number_of(reading)
 }
 
 // Reads one bit's run table of a run sheet.
@@ -29,10 +38,7 @@ pub extern "C" fn vembopu_read_bit(sheet: &[u8], bit: u8, table: &mut [u8]) -> u
     ensures { λ r. ⌜ ReadBitNumber (now (sheet .entry)) bit (now (table .entry)) (now (table .exit)) r ⌝ }
 {
     let reading = sheet::read_bit(sheet, bit, table);
-    match reading {
-        Reading::Accepted(_) => 0,
-        Reading::Refused(c) => c.number(),
-    }
+    number_of(reading)
 }
 
 // How many bytes the sheet of a header and its run tables needs.

@@ -28,7 +28,12 @@ or-else-requires-3 c κs = search needs
 
 returns : tie.Need-returns
 unfolding header-verdict
-returns c = judged (cc)
+returns c =
+    let o = c .before .before in
+    let m = o .before in
+    judged
+    (rw (c .or-else3 .ensures .answer-is, c .before .or-else2 .ensures .answer-is, o .or-else .ensures .answer-is)
+    (rw (m .marks-within .ensures .answer-is, m .before .bit .ensures .answer-is, m .before .before .station-number .ensures .answer-is, m .before .before .before .line-verdict .ensures .answer-is)))
 
 pub header-verdict-spec : {M : Type 1} → statement M
 header-verdict-spec =

@@ -34,7 +34,13 @@ or-else-requires-4 c κs = search needs
 
 returns : tie.Need-returns
 unfolding number-verdict
-returns c = judged (cc)
+returns c =
+    let o = c .before .before .before in
+    let m = o .before in
+    let s = m .before .before in
+    judged
+    (rw (c .or-else4 .ensures .answer-is, c .before .or-else3 .ensures .answer-is, c .before .before .or-else2 .ensures .answer-is, o .or-else .ensures .answer-is)
+    (rw (m .marks-within .ensures .answer-is, m .before .number-within .ensures, s .station-number .ensures .answer-is, s .before .line-verdict .ensures .answer-is, s .before .before .width .ensures)))
 
 pub number-verdict-spec : {M : Type 1} → statement M
 number-verdict-spec =
