@@ -75,11 +75,11 @@ static inline int vembopu_is_bad(const uint8_t *outcome)
  * dynamic linker needs more in the first call.
  */
 enum {
-    VEMBOPU_STACK_READ = 17152,
-    VEMBOPU_STACK_READ_BIT = 17152,
+    VEMBOPU_STACK_READ = 57856,
+    VEMBOPU_STACK_READ_BIT = 57856,
     VEMBOPU_STACK_SHEET_LEN = 256,
     VEMBOPU_STACK_WRITE = 512,
-    VEMBOPU_STACK_REHEARSE = 1536,
+    VEMBOPU_STACK_REHEARSE = 1792,
     VEMBOPU_STACK_CHECK = 1408,
     VEMBOPU_STACK_EXCHANGE = 3712
 };
