@@ -26,7 +26,7 @@ bit-of-two h = omega arith
 
 module _ (n t T : ℕ) (bad : ℕ → Bool) (sender w : ℕ) (v : ℕ → ℕ) (D F : ℕ → ℕ → ℕ)
     (each : (b : ℕ) → b < w → TwoThreshold 2 n t T bad sender (v b) (λ i. D i b) (λ i. F i b)) where
-  together : TwoThreshold (2 ^ w) n t T bad sender (number-of w v) (λ i. number-of w (D i)) (λ i. any w (F i))
+  pub together : TwoThreshold (2 ^ w) n t T bad sender (number-of w v) (λ i. number-of w (D i)) (λ i. any w (F i))
   together = record {
     range = λ i gi. (number-below w (D i) (λ b l. bit-of-two (each b l .range i gi .0)), any-small w (F i));
     agreement = λ f i j gi gj. number-same w (D i) (D j) (λ b l. each b l .agreement f i j gi gj);

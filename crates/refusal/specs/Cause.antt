@@ -41,7 +41,7 @@ pub record Judged (verdict answer : Verdict) : Type 0 where
 unfoldable pub refused-if : Bool → Cause → Verdict
 refused-if test c = if test then Refused c else Accepted
 
--- the first cause that holds. "The lowest number wins up to 8.": the causes are joined in the order of their numbers
+-- the first cause that holds. "The lowest number wins up to 8.": the causes are joined in the order of their numbers, but for 15, which comes before 2 (request 5)
 infixr 5 _or-else_
 abbrev pub _or-else_ : Verdict → Verdict → Verdict
 Accepted or-else next = next

@@ -1,4 +1,4 @@
--- Laws of what the reader promises: what causes 1 to 8 let through, and the promise by what the verdict is. Assumes nothing.
+-- Laws of what the reader promises: what causes 1, 15 and 2 to 8 let through, and the promise by what the verdict is. Assumes nothing.
 use Prim.Native.Nat.{ℕ, _+_, _*_, _≤_, _<_}
 use mathlib.Core.Path.{_≡_, refl, ap, _∙_}
 use mathlib.Core.List.{List}
