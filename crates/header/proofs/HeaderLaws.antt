@@ -1,21 +1,18 @@
 -- Laws of the judgement: nothing is refused exactly if every number is as document 01 wants it. Assumes nothing.
 use Prim.Native.Nat.{ℕ, _+_, _*_, _^_, _≤_, _<_}
-use mathlib.Core.Path.{_≡_, refl, ap}
-use mathlib.Core.Bool.{Bool, true, false, _||_}
+use mathlib.Core.Path.{_≡_, refl}
+use mathlib.Core.Bool.{Bool, true, false}
 use native.Mathlib.Omega.{arith}
 use lib.Dec.{leb, ltb, eqb}
 use borrow.Author.Tests.{leb-false, ltb-false, le-ltb, lt-leb, eqb-true, eq-eqb, not-false}
 use Rattle.line.specs.Line.{Fits, most-stations}
 use Rattle.line.specs.Marks.{marked, mark-beyond}
 use Rattle.line.specs.Width.{most-bits, bits, bit-of}
-use Rattle.refusal.specs.Cause.{code, Judged, refused-if, _or-else_}
 use Rattle.header.specs.Header.{outside, exceeded, station-count, thresholds, station-number, bit, marks-within, exact-length, line-verdict, header-verdict, width, number-within, number-verdict, Sound, SoundNumber}
-use Rattle.refusal.specs.declared.cause.Cause.{Cause}
-use Rattle.refusal.specs.declared.cause.Verdict.{Verdict}
-use Rattle.refusal.specs.declared.cause.Verdict.the-variants.{Accepted, Refused}
+use Rattle.refusal.specs.declared.cause.Verdict.the-variants.{Accepted}
 use Rattle.line.proofs.MarksLaws.{beyond-none, beyond-some}
 use Rattle.line.proofs.WidthLaws.{bit-small}
-use Rattle.refusal.proofs.VerdictLaws.{refused-true, refused-false, never, accepted-false, both-accepted, neither}
+use Rattle.refusal.proofs.VerdictLaws.{refused-false, accepted-false, both-accepted, neither}
 
 -- ---- the tests
 

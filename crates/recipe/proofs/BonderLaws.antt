@@ -1,5 +1,4 @@
 -- Demand 3 of real bonders at a number, from that of each bit's. Assumes nothing.
-use Prim.Native.Nat.{ℕ}
 use Rattle.line.specs.Line.{from-0}
 use Rattle.line.specs.Marks.{marked}
 use Rattle.line.specs.Width.{bits, bit-of}

@@ -208,13 +208,6 @@ module _ (N : NumberRun) (logs₀ outcomes₀ : List ℕ) (ready : Playable N lo
     unfolding bit-run part-of
     turn-played from k e q Q = rw (add-one b, e, q) (bit-played b more bytes results P part₁ results₁ answer (rw (e, q) at Q))
 
-    -- the part's length
-    pub part-back : (from k : ℕ) → from ≡ b * table-length (N .n) (N .t) → k ≡ table-length (N .n) (N .t)
-        → RehearsedBit b (run-of (N .n) (N .t) (N .T) (N .sender) (bit-of (N .number) b) (N .marks) (take k (drop from (N .tables)))) (take k (drop from bytes)) part₁ results results₁ answer
-        → length part₁ ≡ table-length (N .n) (N .t)
-    unfolding bit-run part-of
-    part-back from k e q Q = its-size b more bytes results P part₁ results₁ answer (rw (e, q) at Q)
-
   -- bit b's part ends within the tables, and so within 64 bits
   pub part-ends : (b : ℕ) → b < bits (N .w) → b * table-length (N .n) (N .t) + table-length (N .n) (N .t) ≤ tables-length (N .n) (N .t) (N .w)
   part-ends b h = row-within b (table-length (N .n) (N .t)) (bits (N .w)) h

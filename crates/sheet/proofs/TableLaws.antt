@@ -5,9 +5,8 @@ use mathlib.Core.Bool.{Bool, true, false}
 use mathlib.Core.Logic.{_≢_, ⊎-elim}
 use mathlib.Core.List.{List}
 use native.Mathlib.Nat.{eq-or-lt-of-le, le-of-suc-le-suc}
-use native.Mathlib.Numerals.{add-one}
 use native.Mathlib.Omega.{arith}
-use lib.ListN.{length, getD, set, length-set, length-replicate, getD-replicate}
+use lib.ListN.{length, getD, length-set, length-replicate, getD-replicate}
 use lib.Seq.{getD-set-same, getD-set-other}
 use borrow.Author.Tests.{ltb-false, not-false}
 use Rattle.line.specs.Line.{rounds, place}
@@ -110,12 +109,6 @@ module _ (s : List ℕ) where
   filled-else (suc m) p h none =
       let ne : p ≢ place-of s (reached s m) = λ e. none m (omega arith) (sym e) in
       rw getD-set-other (filled-else m p h (λ a l. none a (omega arith)))
-
-  -- as a loop puts one ballot more in its place
-  pub fill-turn : (a i p b : ℕ) (table : List ℕ) → i ≡ reached s a → p ≡ place-of s i → b ≡ ballot s i → table ≡ filled s a
-      → set table p b ≡ filled s (a + 1)
-  unfolding filled
-  fill-turn a i p b table q e w f = rw (add-one, e, w, f, q)
 
   -- ---- an accepted sheet
 

@@ -1,6 +1,6 @@
 -- `too_large` meets its contract. A byte is below 2 to the power 8.
 use borrow.Author.Needs.{needs}
-use mathlib.Core.Path.{sym, _∙_}
+use mathlib.Core.Path.{sym}
 use native.Mathlib.Omega.{arith}
 use Rattle.line.specs.Marks.{mark-beyond}
 use Rattle.line.proofs.MarksLaws.{beyond-shift, beyond-above}
