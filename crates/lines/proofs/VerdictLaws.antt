@@ -8,16 +8,15 @@ use Rattle.line.proofs.WidthLaws.{bits-some}
 use Rattle.refusal.specs.declared.cause.Cause.{Cause}
 use Rattle.refusal.specs.declared.cause.Verdict.{Verdict}
 use Rattle.refusal.specs.declared.cause.Verdict.the-variants as verdict
-use Rattle.refusal.proofs.VerdictLaws.{both-accepted}
-use Rattle.header.proofs.HeaderLaws.{number-sound}
 use Rattle.layout.specs.declared.Header.{Header}
 use Rattle.layout.specs.Layout.{header, table-wanted, tables-wanted}
 use Rattle.layout.specs.Chain.{Fate}
-use Rattle.judgement.specs.Judgement.{sheet-form, verdict-to-6, verdict-to-8, bit-to-8, sheet-verdict, bit-verdict}
+use Rattle.judgement.specs.Judgement.{verdict-to-6, verdict-to-8, bit-to-8, sheet-verdict, bit-verdict}
 use Rattle.sheet.specs.declared.Reading.{Reading}
 use Rattle.sheet.specs.declared.Reading.the-variants as reading
 use Rattle.sheet.specs.Reading.{reading-by, Reads, ReadsBit}
 use Rattle.sheet.specs.Loops.{SoundHeader}
+use Rattle.sheet.proofs.PromiseLaws.{opened-sound}
 use Rattle.sheet.proofs.Theorems.{judged-either-way}
 use Rattle.lines.specs.Lines as lines
 
@@ -48,13 +47,6 @@ module _ (s : List ℕ) (b : ℕ) (table₀ table₁ : List ℕ) {answer : Readi
 
 -- ---- the lent table's length
 
--- what causes 1 to 6 and 15 let through has a sound header
-pub sound-to-6 : (s : List ℕ) → verdict-to-6 s ≡ verdict.Accepted → SoundHeader (header s)
-unfolding verdict-to-6
-sound-to-6 s e =
-    number-sound (header s .n) (header s .t) (header s .upper) (header s .sender) (header s .value) (header s .w) (header s .marks)
-    (both-accepted (sheet-form s) _ e .1)
-
 module _ (s : List ℕ) (fate : Fate s) where
   -- what they refuse is refused, whatever is lent
   all-refused : (c : Cause) → verdict-to-6 s ≡ verdict.Refused c → (l : ℕ) → sheet-verdict s l fate ≡ verdict.Refused c
@@ -71,7 +63,7 @@ module _ (s : List ℕ) (fate : Fate s) where
   verdict-same lent whole = go (verdict-to-6 s) refl
     where
       go : (v : Verdict) → verdict-to-6 s ≡ v → sheet-verdict s lent fate ≡ sheet-verdict s (tables-wanted s) fate
-      go verdict.Accepted e = rw (whole (sound-to-6 s e))
+      go verdict.Accepted e = rw (whole (opened-sound s e))
       go (verdict.Refused c) e = rw (all-refused c e lent, all-refused c e (tables-wanted s))
 
   -- and so where the first bit is read
@@ -80,5 +72,5 @@ module _ (s : List ℕ) (fate : Fate s) where
   bit-verdict-same lent whole = go (verdict-to-6 s) refl
     where
       go : (v : Verdict) → verdict-to-6 s ≡ v → bit-verdict s 0 lent fate ≡ sheet-verdict s (tables-wanted s) fate
-      go verdict.Accepted e = rw (whole (sound-to-6 s e)) (judged-either-way s fate 0 (bits-some (header s .w)))
+      go verdict.Accepted e = rw (whole (opened-sound s e)) (judged-either-way s fate 0 (bits-some (header s .w)))
       go (verdict.Refused c) e = rw (one-refused c e 0 lent, all-refused c e (tables-wanted s))

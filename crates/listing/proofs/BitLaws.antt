@@ -10,7 +10,6 @@ use Rattle.line.specs.Width.{bits}
 use Rattle.line.proofs.WidthLaws.{bits-some, part-size}
 use Rattle.refusal.specs.declared.cause.Verdict.the-variants.{Accepted}
 use Rattle.refusal.proofs.VerdictLaws.{both-accepted}
-use Rattle.header.proofs.HeaderLaws.{length-exact}
 use Rattle.broadcast.specs.Bytes.{log}
 use Rattle.broadcast.proofs.BytesLaws.{log-size}
 use Rattle.number.specs.Numbers.{NumberRun, bit-run, gathered, bit-outcomes}
@@ -19,15 +18,16 @@ use Rattle.recipe.proofs.RunLaws.{bit-log, bit-gathered}
 use Rattle.layout.specs.declared.Header.{Header}
 use Rattle.layout.specs.Layout.{header, table-wanted, tables-wanted}
 use Rattle.layout.specs.Chain.{Fate}
-use Rattle.judgement.specs.Judgement.{verdict-to-6, verdict-to-8, bit-to-8, chain-verdict, sheet-verdict, bit-verdict}
+use Rattle.judgement.specs.Judgement.{verdict-to-8, bit-to-8, chain-verdict, sheet-verdict, bit-verdict}
 use Rattle.sheet.specs.declared.Reading.{Reading}
 use Rattle.sheet.specs.declared.Reading.the-variants as reading
 use Rattle.sheet.specs.Reading.{table-of, bit-table, ReadsBit}
 use Rattle.sheet.specs.Loops.{SoundHeader}
-use Rattle.sheet.proofs.TableLaws.{accepted-ends, filled-length}
+use Rattle.sheet.proofs.TableLaws.{table-long}
+use Rattle.sheet.proofs.PromiseLaws.{opening-sound, bit-length}
 use Rattle.sheet.proofs.Theorems.{one-fate, judged-either-way}
 use Rattle.lines.specs.Lines.{run, verdict}
-use Rattle.lines.proofs.VerdictLaws.{sound-to-6, bit-accepted, bit-verdict-same}
+use Rattle.lines.proofs.VerdictLaws.{bit-accepted, bit-verdict-same}
 use Rattle.listing.specs.Loops.{BitRehearsed, Begun, BitsRun}
 
 -- ---- an accepted sheet
@@ -42,13 +42,11 @@ module _ (s : List ℕ) (f : Fate s) (v : verdict s f ≡ Accepted) where
   judged = v
 
   sound : SoundHeader (header s)
-  unfolding sheet-verdict verdict-to-8
-  sound =
-      let opened = both-accepted (verdict-to-8 s (tables-wanted s)) (chain-verdict s f) judged .0 in
-      sound-to-6 s (both-accepted (verdict-to-6 s) _ opened .0)
+  unfolding sheet-verdict
+  sound = opening-sound s _ (both-accepted (verdict-to-8 s (tables-wanted s)) (chain-verdict s f) judged .0)
 
   tables-long : length (table-of s f) ≡ tables-wanted s
-  tables-long = let (m, (e, (w, t))) = accepted-ends s (tables-wanted s) f judged in rw t (filled-length s m)
+  tables-long = table-long s _ f judged
 
   bit-long : (b : ℕ) → b < bits (header s .w) → length (bit-table s f b) ≡ table-wanted s
   bit-long b h = part-size (table-wanted s) (table-of s f) b (bits (header s .w)) h tables-long
@@ -143,10 +141,8 @@ module _ (s table₀ table₁ : List ℕ) {answer : Reading} (r : ReadsBit s 0 t
 
   -- the table has one bit's length
   pub first-long : length table₀ ≡ table-wanted s
-  unfolding bit-verdict bit-to-8
-  first-long =
-      let opened = both-accepted (bit-to-8 s 0 (length table₀)) (chain-verdict s (r .fate)) (both .0) .0 in
-      length-exact (table-wanted s) (length table₀) (both-accepted _ _ (both-accepted (verdict-to-6 s) _ opened .1) .0)
+  unfolding bit-verdict
+  first-long = bit-length s 0 _ (both-accepted (bit-to-8 s 0 (length table₀)) (chain-verdict s (r .fate)) (both .0) .0)
 
   pub begun : (bytes : List ℕ) → length bytes ≡ length table₀ → Begun s h table₁ bytes
   begun bytes q = record {

@@ -10,7 +10,7 @@ use lib.Dec.{ltb}
 use lib.ListN.{length, length-append}
 use native.Mathlib.Nat.{mul-suc, eq-or-lt-of-le, eq-zero-or-pos}
 use borrow.Author.Tests.{ltb-true, ltb-false, not-false}
-use Rattle.line.specs.Count.{if_then_else_, count}
+use Rattle.line.specs.Count.{count}
 use Rattle.line.proofs.CountLaws.{none-passes, witness, count-not}
 use Rattle.line.specs.Line.{rounds}
 use Rattle.line.specs.Marks.{marked}
@@ -18,16 +18,16 @@ use Rattle.refusal.specs.Cause.{number}
 use Rattle.refusal.specs.declared.cause.Verdict.{Verdict}
 use Rattle.refusal.specs.declared.cause.Verdict.the-variants.{Accepted, Refused}
 use Rattle.refusal.proofs.VerdictLaws.{both-accepted}
-use Rattle.broadcast.specs.Exchange.{flag-of}
 use Rattle.broadcast.specs.Station.{at}
 use Rattle.broadcast.specs.Theorems.{value-at, grade-at, flag-at, garbled-at}
+use Rattle.broadcast.proofs.TallyLaws.{flag-bit}
 use Rattle.number.specs.Numbers.{NumberRun, number-outcomes}
 use Rattle.number.specs.Theorems.{NumberOutcomeBytes}
 use Rattle.number.proofs.Theorems.{number-outcome-bytes, none-marked-none-garbled}
 use Rattle.layout.specs.declared.Header.{Header}
 use Rattle.layout.specs.Layout.{header}
 use Rattle.layout.specs.Chain.{Fate}
-use Rattle.judgement.specs.Judgement.{verdict-to-6, bit-to-8, chain-verdict, bit-verdict}
+use Rattle.judgement.specs.Judgement.{bit-to-8, chain-verdict, bit-verdict}
 use Rattle.sheet.specs.Reading.{table-of}
 use Rattle.sheet.specs.Loops.{SoundHeader}
 use Rattle.text.specs.Decimal.{decimal}
@@ -35,7 +35,7 @@ use Rattle.text.proofs.DecimalLaws.{decimal-one, decimal-two, decimal-short}
 use Rattle.lines.proofs.LineLaws.{bad-shown, good-shown, refusal-short}
 use Rattle.lines.specs.Lines.{first-line, station-line, station-lines, lines-by, run}
 use Rattle.lines.specs.Text.{line-text, text}
-use Rattle.lines.proofs.VerdictLaws.{sound-to-6}
+use Rattle.sheet.proofs.PromiseLaws.{bit-sound}
 use Rattle.listing.specs.Promise.{lent-verdict, listing}
 use Rattle.listing.specs.Theorems.{longest-listing}
 
@@ -58,14 +58,6 @@ station-digits i h = go (ltb i 9) refl
     go : (b : Bool) → ltb i 9 ≡ b → length (decimal (i + 1)) + (i - 9) ≤ 1 + (suc i - 9)
     go true e = let l = ltb-true i 9 e in omega (arith, one-digit (i + 1) (omega arith))
     go false e = let l = ltb-false i 9 e in omega (arith, two-digits (i + 1) (omega arith))
-
-flag-bit : (g : ℕ) → flag-of g ≤ 1
-unfolding flag-of
-flag-bit g = go (ltb g 2)
-  where
-    go : (b : Bool) → (if b then 1 else 0) ≤ 1
-    go true = omega arith
-    go false = omega arith
 
 -- ---- lines
 
@@ -129,8 +121,8 @@ module _ (N : NumberRun) (most : N .n ≤ 32) (digits : ℕ) (some : 1 ≤ digit
 
 module _ (s : List ℕ) (lent : ℕ) (fate : Fate s) where
   sound-if : lent-verdict s lent fate ≡ Accepted → SoundHeader (header s)
-  unfolding bit-verdict bit-to-8
-  sound-if e = sound-to-6 s (both-accepted (verdict-to-6 s) _ (both-accepted (bit-to-8 s 0 lent) (chain-verdict s fate) e .0) .0)
+  unfolding bit-verdict
+  sound-if e = bit-sound s 0 lent (both-accepted (bit-to-8 s 0 lent) (chain-verdict s fate) e .0)
 
   its-number : NumberRun
   its-number = run (header s) (table-of s fate)

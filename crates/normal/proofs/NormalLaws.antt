@@ -21,7 +21,7 @@ use Rattle.layout.proofs.ChainLaws.{chain-short, before-end, one-length}
 use Rattle.judgement.specs.Judgement.{verdict-to-8, chain-verdict, sheet-verdict}
 use Rattle.sheet.specs.Reading.{place-of, table-of}
 use Rattle.sheet.proofs.PlaceLaws.{InPlace, place-inside, bit-told, round-told, from-told, to-told}
-use Rattle.sheet.proofs.TableLaws.{judged, judged-place, filled-length, accepted-ends, ballots-stand, unmarked-silent}
+use Rattle.sheet.proofs.TableLaws.{judged, judged-place, accepted-ends, table-long, ballots-stand, unmarked-silent}
 use Rattle.sheet.proofs.PromiseLaws.{opening-length, opening-most}
 use Rattle.selection.specs.Places.{bit-at, round-at, from-at, to-at, to-write, how-many, place-written}
 use Rattle.selection.proofs.PlaceLaws.{told}
@@ -41,10 +41,6 @@ module _ (s : List ℕ) (l : ℕ) (f : Fate s) (v : sheet-verdict s l f ≡ Acce
   opened = both-accepted (verdict-to-8 s l) (chain-verdict s f) v .0
 
   -- ---- the table
-
-  -- it has the right length
-  pub table-long : length (table-of s f) ≡ tables-wanted s
-  table-long = let (m, (e, (w, t))) = accepted-ends s l f v in rw t (filled-length s m)
 
   -- unmarked senders are silent in it
   silent-there : (p : ℕ) → p < tables-wanted s → marked (header s .marks) (from-at (header s .n) p) ≡ false
@@ -101,7 +97,7 @@ module _ (s : List ℕ) (l : ℕ) (f : Fate s) (v : sheet-verdict s l f ≡ Acce
   pub writable : before-buffer (take 12 s) (table-of s f) ≡ Accepted
   unfolding before-buffer too-many
   writable =
-      let z : l ≡ length (table-of s f) = opening-length s l opened ∙ sym table-long in
+      let z : l ≡ length (table-of s f) = opening-length s l opened ∙ sym (table-long s l f v) in
       let few : how-many (header s) (table-of s f) ≤ most-records = omega (arith, few-written, opening-most s l opened) in
       rw (rw z at (front-accepted s l opened), front-header s) (refused-false TooManyRecords (le-ltb most-records (how-many (header s) (table-of s f)) few))
 

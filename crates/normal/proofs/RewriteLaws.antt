@@ -16,7 +16,8 @@ use Rattle.normal.proofs.SameLaws.{SameNumbers, same-trans, same-sheet,
 use Rattle.normal.proofs.ReadLaws.{tidy}
 use Rattle.normal.proofs.BackLaws.{read-back}
 use Rattle.normal.proofs.FrontLaws.{front-byte, front-same, front-header}
-use Rattle.normal.proofs.NormalLaws.{table-long, all-kept, number-written, shorter, writable, kept-record}
+use Rattle.sheet.proofs.TableLaws.{table-long}
+use Rattle.normal.proofs.NormalLaws.{all-kept, number-written, shorter, writable, kept-record}
 
 module _ (s : List ℕ) (l : ℕ) (f : Fate s) (v : sheet-verdict s l f ≡ Accepted) where
   -- the table is read back whole

@@ -1,15 +1,13 @@
 -- Tables, logs and outcomes of a number: what stands where, and one bit as a broadcast. Assumes nothing.
 use Prim.Native.Nat.{ℕ, _+_, _*_, _/_, _%_, _^_, _≤_, _<_}
 use mathlib.Core.Path.{_≡_, refl, sym, ap, _∙_}
-use mathlib.Core.Bool.{Bool, true, false}
+use mathlib.Core.Bool.{true, false}
 use mathlib.Core.List.{List}
 use native.Mathlib.Omega.{arith}
 use native.Mathlib.Nat.{le-of-eq}
-use lib.Dec.{ltb}
 use lib.ListN.{length, getD}
 use lib.Seq.{ext-getD}
 use lib.Arith.{digits-lt, digits-div, digits-mod}
-use Rattle.line.specs.Count.{if_then_else_}
 use Rattle.line.specs.Line.{from-0, rounds, table-length, outcome-size, outcomes-length, place}
 use Rattle.line.specs.Marks.{marked}
 use Rattle.line.specs.Width.{bits, bit-of, tables-length, part-of}
@@ -24,6 +22,7 @@ use Rattle.broadcast.specs.Bytes.{setting, setting-of, log-byte, log, outcomes}
 use Rattle.broadcast.specs.Guarantees.{Good}
 use Rattle.broadcast.specs.Theorems.{value-at, grade-at, flag-at, garbled-at}
 use Rattle.broadcast.proofs.BytesLaws.{length-tabulate, getD-tabulate, outcome-length, byte-of, good-value, good-grade, good-flag, good-count, outcomes-same, outcome-ranges-of}
+use Rattle.broadcast.proofs.TallyLaws.{flag-bit}
 use Rattle.broadcast.proofs.Theorems.{none-marked-none-garbled}
 use Rattle.number.specs.Numbers.{NumberRun, bit-run, logs, numbers, grades, flags, counts, stations, gathered, bit-outcomes, number-outcomes}
 use Rattle.number.specs.Theorems.{NumberOutcomeBytes, None-marked-none-garbled, BitBuffers, as-run}
@@ -183,14 +182,6 @@ module _ (N : NumberRun) where
 
 -- ---- one bit
 
-flag-small : (g : ℕ) → flag-of g ≤ 1
-unfolding flag-of
-flag-small g = go (ltb g 2)
-  where
-    go : (c : Bool) → (if c then 1 else 0) ≤ 1
-    go true = omega arith
-    go false = omega arith
-
 -- the first bit's outcomes are its own
 pub first-gathered : (N : NumberRun) → gathered (N .n) (N .marks) 1 (bit-outcomes N) ≡ bit-outcomes N 0
 unfolding bit-outcomes outcomes bit-run gathered stations setting numbers grades flags counts
@@ -206,7 +197,7 @@ first-gathered N =
     (λ i g. (
       number-one _ ∙ good-value S y r f c i g,
       smallest-one _ (each N i g 0 .1) ∙ good-grade S y r f c i g,
-      any-one-bit _ (rw (each N i g 0 .2) (flag-small _)) ∙ good-flag S y r f c i g,
+      any-one-bit _ (rw (each N i g 0 .2) (flag-bit _)) ∙ good-flag S y r f c i g,
       largest-one _ ∙ good-count S y r f c i g,
     ))
 

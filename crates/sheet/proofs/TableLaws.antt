@@ -126,6 +126,10 @@ module _ (s : List ℕ) where
       go (again x) w = never w
       go (ends m e) w = (m, (e, (w, refl)))
 
+  -- its tables have their length
+  pub table-long : (l : ℕ) (f : Fate s) → sheet-verdict s l f ≡ Accepted → length (table-of s f) ≡ tables-wanted s
+  table-long l f v = let (m, (e, (w, t))) = accepted-ends l f v in rw t (filled-length m)
+
   -- the ballot of each chained record stands in its place
   pub ballots-stand : (l : ℕ) (f : Fate s) → sheet-verdict s l f ≡ Accepted
       → (a : ℕ) → Record s (reached s a) → getD (table-of s f) (place-of s (reached s a)) 0 ≡ ballot s (reached s a)
