@@ -7,7 +7,7 @@ use borrow.Author.Tests.{eq-eqb, ne-eqb}
 use Rattle.line.specs.Line.{from-0, rounds, place}
 use Rattle.line.specs.Marks.{marked}
 use Rattle.line.specs.Ballot.{silence}
-use Rattle.broadcast.specs.Exchange.{Setting}
+use Rattle.broadcast.specs.Exchange.{Setting, sends, second-row}
 use Rattle.broadcast.specs.Broadcast.{first-round, x-after, z-after, y-after, speaks, spoken, said, sent}
 use Rattle.broadcast.specs.Station.{at}
 use Rattle.broadcast.specs.Bytes.{setting, Run, setting-of, log}
@@ -41,6 +41,11 @@ module _ (S : Setting) (sender-from-0 value : ℕ) where
   pub said-not-sender : (i : ℕ) → i ≢ sender-from-0 → said S sender-from-0 value 1 i ≡ silence
   unfolding said speaks
   said-not-sender i h = rw (part-sender, ne-eqb i sender-from-0 h)
+
+  -- the second round's bytes are the exchange's second row
+  pub sent-second : (p i j : ℕ) → sent S sender-from-0 value (first-round p + 1) i j ≡ second-row S (first-round p) (x-after S sender-from-0 value p) j i
+  unfolding sent second-row z-after
+  sent-second p i j = ap (sends S (first-round p + 1) i j) (said-second p i)
 
 -- ---- in the document's rounds
 

@@ -16,7 +16,7 @@ use Rattle.broadcast.specs.Station.{Setup, State, running, done, opened,
 use Rattle.broadcast.proofs.RowLaws.{seconds-same, z-same, y-same}
 use Rattle.broadcast.proofs.PartLaws.{part-sender, part-first, part-second, part-king, next-first, first-is, by-parts}
 use Rattle.broadcast.proofs.RoundLaws.{running-in, done-in}
-use Rattle.broadcast.proofs.SaidLaws.{said-sender, said-first, said-second, said-king}
+use Rattle.broadcast.proofs.SaidLaws.{said-sender, said-first, said-king, sent-second}
 
 -- ---- station j of a run, opened with v
 
@@ -61,10 +61,10 @@ module _ (S : Setting) (sender-from-0 value : ℕ) (in-line : sender-from-0 < S 
 
   pub step-second : (p : ℕ) (s : State) (row : Row) → Received (first-round p + 1) row → Knows (first-round p + 1) s
       → Knows (first-round p + 1 + 1) (advance its-setup s row)
-  unfolding advance taken moved next Holds z-after y-after grade-after y grade second-row sent
+  unfolding advance taken moved next Holds y-after grade-after y grade
   step-second p s row h k =
       let same : (i : ℕ) → i < S .n → row i ≡ second-row S (first-round p) (x-after S sender-from-0 value p) j i
-      = λ i l. h i l ∙ ap (sends S (first-round p + 1) i j) (said-second S sender-from-0 value p i) in
+      = λ i l. h i l ∙ sent-second S sender-from-0 value p i j in
       let ey = y-same (S .n) row _ same in
       let two : first-round p + 1 + 1 ≡ first-round p + 2 = omega arith in
       rw (k .in-round, part-second p) (record {

@@ -15,6 +15,7 @@ use Rattle.line.proofs.CountLaws.{if-true, if-false, le-or-lt, count-zero, coun
 use Rattle.line.proofs.BallotLaws.{first-value-bound, first-value-keeps, first-value-because, second-value-keeps, second-value-bound, second-value-because, king-value-keeps, king-value-unreadable, king-value-bit}
 use Rattle.broadcast.specs.Exchange.{Row, tally, firsts, seconds, z-from, z-of, y-from, y-of, for-y, grade-of, flag-of}
 use Rattle.broadcast.specs.Broadcast.{obey}
+use Rattle.broadcast.specs.Theorems.{Balance-has-grade-0, One-by-majority}
 
 -- ---- zeros, ones and blanks
 
@@ -165,20 +166,20 @@ unfolding z-of
 z-means n T x row = z-from-means n T x (firsts n x row)
 
 -- step 4, of two counts
-pub y-from-means : (a b : ℕ) → (b < a → y-from a b ≡ 0) × (a ≤ b → y-from a b ≡ 1)
+pub y-from-means : (a b : ℕ) → (b ≤ a → y-from a b ≡ 0) × (a < b → y-from a b ≡ 1)
 unfolding y-from
-y-from-means a b = (λ h. if-true 0 1 (lt-ltb b a h), λ h. if-false 0 1 (le-ltb b a h))
+y-from-means a b = (λ h. if-true 0 1 (le-leb b a h), λ h. if-false 0 1 (lt-leb b a h))
 
 pub y-from-bit : (a b : ℕ) → y-from a b ≤ 1
-y-from-bit a b = go (le-or-lt a b)
+y-from-bit a b = go (le-or-lt b a)
   where
-    go : (a ≤ b) ⊎ (b < a) → y-from a b ≤ 1
-    go (inl h) = omega (arith, y-from-means a b .1 h)
-    go (inr h) = omega (arith, y-from-means a b .0 h)
+    go : (b ≤ a) ⊎ (a < b) → y-from a b ≤ 1
+    go (inl h) = omega (arith, y-from-means a b .0 h)
+    go (inr h) = omega (arith, y-from-means a b .1 h)
 
 -- of a row
 pub y-means : (n : ℕ) (row : Row)
-    → (seconds n 1 row < seconds n 0 row → y-of n row ≡ 0) × (seconds n 0 row ≤ seconds n 1 row → y-of n row ≡ 1)
+    → (seconds n 1 row ≤ seconds n 0 row → y-of n row ≡ 0) × (seconds n 0 row < seconds n 1 row → y-of n row ≡ 1)
 unfolding y-of
 y-means n row = y-from-means (seconds n 0 row) (seconds n 1 row)
 
@@ -249,9 +250,9 @@ y-bit n row = y-from-bit (seconds n 0 row) (seconds n 1 row)
 
 pub y-majority : (n : ℕ) (row : Row) (v w : ℕ) → v + w ≡ 1 → seconds n w row < seconds n v row → y-of n row ≡ v
 y-majority n row zero zero s h = absurd (omega arith)
-y-majority n row zero (suc zero) s h = y-means n row .0 h
+y-majority n row zero (suc zero) s h = y-means n row .0 (omega arith)
 y-majority n row zero (suc (suc w)) s h = absurd (omega arith)
-y-majority n row (suc zero) zero s h = y-means n row .1 (omega arith)
+y-majority n row (suc zero) zero s h = y-means n row .1 h
 y-majority n row (suc zero) (suc w) s h = absurd (omega arith)
 y-majority n row (suc (suc v)) w s h = absurd (omega arith)
 
@@ -286,6 +287,25 @@ module _ (n t T c : ℕ) where
       (λ a. (λ _. omega arith, λ _. a))
       (λ a b. (λ _. b, λ g. absurd (omega (arith, m .1 a b))))
       (λ a b. (λ g. absurd (omega (arith, m .2 a b)), λ g. absurd (omega (arith, m .2 a b))))
+
+-- ---- a balance
+
+-- as many zeros as ones: neither has the n - T of grade 1, which are more than half
+pub balance : Balance-has-grade-0
+balance n t T fits row e =
+    let y-0 : y-of n row ≡ 0 = y-means n row .0 (omega arith) in
+    let few = seconds-apart n row 0 1 refl in
+    record {
+      value = y-0;
+      grade = rw y-0 (grade-means n t T (seconds n 0 row) .2 (omega (arith, fits)) (omega (arith, fits)));
+    }
+
+pub one-by-majority : One-by-majority
+one-by-majority n row e = go (le-or-lt (seconds n 1 row) (seconds n 0 row))
+  where
+    go : (seconds n 1 row ≤ seconds n 0 row) ⊎ (seconds n 0 row < seconds n 1 row) → seconds n 0 row < seconds n 1 row
+    go (inl h) = absurd (omega (arith, y-means n row .0 h))
+    go (inr h) = h
 
 -- ---- the king is obeyed at grade 0 only
 

@@ -1,13 +1,15 @@
 -- The theorems: each statement of specs/Theorems.antt, under its name, and the law that proves it. Assumes nothing.
-use Rattle.broadcast.specs.Theorems.{First-counts, First-ballots-make-n, Blanks-count-for-neither, Ballots-make-n, Definition-6, Definition-6-alone, Exchange-effect, Exchange-bytes, Kings-word, Log-bytes, Part-by-rounds, Sent-by-rounds, Outcome-bytes, Table-effect, Demand-3, Unflagged-agree, Enough-unflagged, Enough-flags, Enough-show, Station-follows-run, Stations-make-run, Done-after-rows, Value-at-sender, Good-ballots-readable, None-marked-none-garbled, Count-by-log, Count-after-rows, Count-without-effect}
+use Rattle.broadcast.specs.Theorems.{First-counts, First-ballots-make-n, Blanks-count-for-neither, Ballots-make-n, Balance-has-grade-0, One-by-majority, Definition-6, Definition-6-alone, Exchange-effect, Exchange-bytes, Kings-word, Log-bytes, Part-by-rounds, Sent-by-rounds, Outcome-bytes, Last-round, Table-effect, Demand-3, Unflagged-agree, Enough-unflagged, Enough-flags, Enough-show, Station-follows-run, Stations-make-run, Done-after-rows, Value-at-sender, Good-ballots-readable, None-marked-none-garbled, Count-by-log, Count-after-rows, Count-without-effect}
 use Rattle.line.specs.Ballot.{read-king}
-use Rattle.broadcast.proofs.TallyLaws.{first-bytes, firsts-make-n, blanks-for-neither, seconds-make-n, obey-means, obey-king, obey-unreadable}
+use Rattle.broadcast.proofs.TallyLaws as tally
+use Rattle.broadcast.proofs.TallyLaws.{first-bytes, firsts-make-n, blanks-for-neither, seconds-make-n, balance, obey-means, obey-king, obey-unreadable}
 use Rattle.broadcast.proofs.ExchangeLaws.{graded-consensus}
 use Rattle.broadcast.proofs.RoundLaws as round
 use Rattle.broadcast.proofs.BroadcastLaws as whole
 use Rattle.broadcast.proofs.BytesLaws.{log-size, log-at, graded-consensus-alone, two-threshold-bytes, exchange-ranges, outcome-ranges-of}
 use Rattle.broadcast.proofs.PartLaws as part
 use Rattle.broadcast.proofs.SaidLaws as said
+use Rattle.broadcast.proofs.LastRoundLaws as last
 use Rattle.broadcast.proofs.GarbledLaws as garbled
 use Rattle.broadcast.proofs.EffectLaws.{same-exchange, same-effect}
 use Rattle.broadcast.proofs.AssemblyLaws.{follows, make-run}
@@ -23,6 +25,12 @@ blanks-count-for-neither = blanks-for-neither
 
 pub ballots-make-n : Ballots-make-n
 ballots-make-n = seconds-make-n
+
+pub balance-has-grade-0 : Balance-has-grade-0
+balance-has-grade-0 = balance
+
+pub one-by-majority : One-by-majority
+one-by-majority = tally.one-by-majority
 
 pub definition-6 : Definition-6
 definition-6 = graded-consensus
@@ -50,6 +58,9 @@ sent-by-rounds = said.sent-by-rounds
 
 pub outcome-bytes : Outcome-bytes
 outcome-bytes = outcome-ranges-of
+
+pub last-round : Last-round
+last-round = last.last-round
 
 pub table-effect : Table-effect
 table-effect = same-effect

@@ -1,4 +1,4 @@
--- The graded exchange (document 01, "The graded exchange"; document 02, request 2; source 001, Protocol 1).
+-- The graded exchange (document 01, "The graded exchange"; document 02, requests 2 and 6; source 001, Protocol 1).
 use Prim.Native.Nat.{ℕ, _+_, _-_}
 use mathlib.Core.Bool.{Bool}
 use lib.Dec.{leb, ltb, eqb}
@@ -30,9 +30,10 @@ z-of n T x row = z-from n T x (firsts n x row)
 unfoldable pub seconds : ℕ → ℕ → Row → ℕ
 seconds n v row = tally second-value n v row
 
--- step 4 (001: 6, where equal counts give 0): "y = 0 if a exceeds b, otherwise y = 1."
+-- step 4, as source 001 has it (6: "if |U⁰| ≥ |U¹| then y := 0 else y := 1"). Document 01 had "y = 0 if a exceeds b, otherwise y = 1."; request 6: "In step 4
+-- equal counts now give 0"
 unfoldable pub y-from : ℕ → ℕ → ℕ
-y-from a b = if ltb b a then 0 else 1
+y-from a b = if leb b a then 0 else 1
 
 unfoldable pub y-of : ℕ → Row → ℕ
 y-of n row = y-from (seconds n 0 row) (seconds n 1 row)

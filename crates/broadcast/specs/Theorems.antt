@@ -11,7 +11,7 @@ use Rattle.line.specs.Count.{count}
 use Rattle.line.specs.Line.{Fits, from-0, rounds, table-length, outcome-size, outcomes-length, place}
 use Rattle.line.specs.Marks.{marked, faults}
 use Rattle.line.specs.Ballot.{blank, read-king, is-garbled}
-use Rattle.broadcast.specs.Exchange.{Row, firsts, seconds, Setting, y, grade, flag-of}
+use Rattle.broadcast.specs.Exchange.{Row, firsts, seconds, y-of, grade-of, flag-of, Setting, y, grade}
 use Rattle.broadcast.specs.Broadcast.{obey, from-sender, first-of, second-of, from-king, x-after, z-after, y-after, part, speaks, sent}
 use Rattle.broadcast.specs.Garbled.{reading, some-garbled}
 use Rattle.broadcast.specs.Station.{Setup, State, running, done, ballot, advance, result, at, after}
@@ -35,6 +35,18 @@ Blanks-count-for-neither = (n v : ℕ) (row : Row) → v ≤ 1 → seconds n v r
 -- step 4: "and zeros, ones and blanks make n"
 abbrev pub Ballots-make-n : Type 0
 Ballots-make-n = (n : ℕ) (row : Row) → seconds n 0 row + seconds n 1 row + seconds n blank row ≡ n
+
+-- step 4 (request 6), of every row of an accepted line with as many zeros as ones: "equal counts now give 0", and "A balance always has grade 0"
+pub record Balance (n t T : ℕ) (row : Row) : Type 0 where
+  pub value : y-of n row ≡ 0
+  pub grade : grade-of n t T (seconds n (y-of n row) row) ≡ 0
+
+abbrev pub Balance-has-grade-0 : Type 0
+Balance-has-grade-0 = (n t T : ℕ) → Fits n t T → (row : Row) → seconds n 0 row ≡ seconds n 1 row → Balance n t T row
+
+-- "A changeover that nobody carries by majority should not happen.": y is 1 only where the ones exceed the zeros
+abbrev pub One-by-majority : Type 0
+One-by-majority = (n : ℕ) (row : Row) → y-of n row ≡ 1 → seconds n 0 row < seconds n 1 row
 
 -- Definition 6 of an exchange of a whole line, in any two rounds, whatever the marked stations enter with and send
 abbrev pub Definition-6 : Type 0
@@ -141,6 +153,19 @@ Sent-by-rounds =
 -- what `OutcomeBytes` says, of a run's outcomes
 abbrev pub Outcome-bytes : Type 0
 Outcome-bytes = (R : Run) → OutcomeBytes (R .n) (rounds (R .t)) (marked (R .marks)) (outcomes R)
+
+-- how many bytes of the log's last round, to station j, are v
+abbrev pub last-ballots : Run → ℕ → ℕ → ℕ
+last-ballots R j v = count (R .n) (λ i. eqb (at (log R) (place (R .n) (rounds (R .t)) i j)) v)
+
+-- request 6, of the bytes of a run: what station j makes of the last round. A changeover is carried by a majority, and a balance keeps 0, with grade 0 and the flag
+pub record LastRound (R : Run) (j : ℕ) : Type 0 where
+  pub changeover : value-at (outcomes R) j ≡ 1 → last-ballots R j 0 < last-ballots R j 1
+  pub balance : last-ballots R j 0 ≡ last-ballots R j 1
+      → (value-at (outcomes R) j ≡ 0) × (grade-at (outcomes R) j ≡ 0) × (flag-at (outcomes R) j ≡ 1)
+
+abbrev pub Last-round : Type 0
+Last-round = (R : Run) → Fits (R .n) (R .t) (R .T) → (j : ℕ) → Good (R .n) (marked (R .marks)) j → LastRound R j
 
 -- the run with another table
 abbrev pub with-table : Run → List ℕ → Run

@@ -100,6 +100,9 @@ all-hold = (
       then (fate _, refl)
       then (fate _, refl)
       then (fate _, refl)
+      then (fate _, refl)
+      then (fate _, refl)
+      then (fate _, refl)
       then tt,
   (fate _, refl)
       then (fate _, refl)

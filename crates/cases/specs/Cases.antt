@@ -1,4 +1,4 @@
--- The cases A to H of document 01, "Runs worked through", as document 02's requests 2 and 4 leave them: one table, a row for each sheet.
+-- The cases A to H of document 01, "Runs worked through", as document 02's requests 2, 4 and 6 leave them: one table, a row for each sheet.
 use Prim.Native.Nat.{ℕ}
 use mathlib.Core.List.{List, [], _∷_, _++_}
 use Rattle.cases.specs.Table.{Wanted, prints, writes, accepted, refused-by, Case, head, rec, good, bad, opening}
@@ -22,11 +22,11 @@ case-A-whole = record {
       ++ (52 ∷ 32 ∷ 45 ∷ 32 ∷ 45 ∷ 32 ∷ 45 ∷ 32 ∷ 45 ∷ 10 ∷ []));
 }
 
--- "station 4 bad, telling station 1 a one and stations 2 and 3 a zero in round 1, then silent"; request 2: "Case B now ends with value 1, grade 1, flag 1."
+-- "station 4 bad, telling station 1 a one and stations 2 and 3 a zero in round 1, then silent"; request 6: "Case B goes back to value 0, grade 1, flag 1."
 abbrev pub case-B : Case
 case-B = record {
   sheet = head 4 0 1 4 0 1 8 ++ rec 1 4 1 1 2 ++ rec 1 4 2 0 3 ++ rec 1 4 3 0 0;
-  comes-out = prints (opening 4 0 1 4 6 ∷ good 1 1 1 1 0 ∷ good 2 1 1 1 0 ∷ good 3 1 1 1 0 ∷ bad 4 ∷ []);
+  comes-out = prints (opening 4 0 1 4 6 ∷ good 1 0 1 1 0 ∷ good 2 0 1 1 0 ∷ good 3 0 1 1 0 ∷ bad 4 ∷ []);
 }
 
 -- "station 1 bad, sending 0 to station 2 and 1 to station 3 in rounds 1, 2, 3, 5 and 6, else silent"

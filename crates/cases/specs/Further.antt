@@ -13,22 +13,31 @@ silent-sender = record {
   comes-out = prints (opening 4 1 1 4 9 ∷ good 1 0 2 0 0 ∷ good 2 0 2 0 0 ∷ good 3 0 2 0 0 ∷ bad 4 ∷ []);
 }
 
--- request 2, "In the first round of an exchange a byte other than 0 or 1 now counts for neither value": case B with a blank and a garbled ballot to the two
--- stations whose x is 0, in place of silence
+-- request 2, "In the first round of an exchange a byte other than 0 or 1 now counts for neither value": case B with a one from station 4 to station 1, the king, in
+-- round 3. All z are blank, that one is its majority, and all take 1 from it. With silence read as 0 stations 2 and 3 would send zeros, and all would end with 0
+abbrev pub silent-ballots : Case
+silent-ballots = record {
+  sheet = head 4 0 1 4 0 1 8 ++ rec 1 4 1 1 2 ++ rec 1 4 2 0 3 ++ rec 1 4 3 0 4 ++ rec 3 4 1 1 0;
+  comes-out = prints (opening 4 0 1 4 6 ∷ good 1 1 1 1 0 ∷ good 2 1 1 1 0 ∷ good 3 1 1 1 0 ∷ bad 4 ∷ []);
+}
+
+-- the same with a blank and a garbled ballot to the two stations whose x is 0, in place of silence
 abbrev pub neither-value : Case
 neither-value = record {
-  sheet = head 4 0 1 4 0 1 8 ++ rec 1 4 1 1 2 ++ rec 1 4 2 0 3 ++ rec 1 4 3 0 4 ++ rec 2 4 2 2 5 ++ rec 2 4 3 128 0;
+  sheet = head 4 0 1 4 0 1 8 ++ rec 1 4 1 1 2 ++ rec 1 4 2 0 3 ++ rec 1 4 3 0 4 ++ rec 2 4 2 2 5 ++ rec 2 4 3 128 6 ++ rec 3 4 1 1 0;
   comes-out = prints (opening 4 0 1 4 6 ∷ good 1 1 1 1 0 ∷ good 2 1 1 1 1 ∷ good 3 1 1 1 1 ∷ bad 4 ∷ []);
 }
 
--- request 2, "a king's unreadable ballot leaves a grade 0 station with its own y": stations 2 and 3 enter the first exchange with 0 and 1 and leave it with y 1
--- and grade 0, the bad king is silent, and both keep 1. With the king read as 0 both would end with 0, with the x that they entered with both at grade 0
+-- request 2, "a king's unreadable ballot leaves a grade 0 station with its own y": stations 2 and 3 enter the first exchange with 0 and 1 and leave it, by
+-- the one that station 1 sends each, with y 1 and grade 0; the bad king is silent, and both keep 1. With the king read as 0 both would end with 0, with the x that
+-- they entered with both at grade 0
 abbrev pub silent-king : Case
 silent-king = record {
   sheet =
       head 3 0 1 1 0 1 1
       ++ rec 1 1 2 0 2 ++ rec 1 1 3 1 3
-      ++ rec 2 1 2 1 4 ++ rec 2 1 3 0 0;
+      ++ rec 2 1 2 1 4 ++ rec 2 1 3 0 5
+      ++ rec 3 1 2 1 6 ++ rec 3 1 3 1 0;
   comes-out = prints (opening 3 0 1 1 6 ∷ bad 1 ∷ good 2 1 1 1 0 ∷ good 3 1 1 1 0 ∷ []);
 }
 
@@ -39,16 +48,28 @@ unreadable-king = record {
       head 3 0 1 1 0 1 1
       ++ rec 1 1 2 0 2 ++ rec 1 1 3 1 3
       ++ rec 2 1 2 1 4 ++ rec 2 1 3 0 5
-      ++ rec 4 1 2 2 6 ++ rec 4 1 3 128 0;
+      ++ rec 3 1 2 1 6 ++ rec 3 1 3 1 7
+      ++ rec 4 1 2 2 8 ++ rec 4 1 3 128 0;
   comes-out = prints (opening 3 0 1 1 6 ∷ bad 1 ∷ good 2 1 1 1 1 ∷ good 3 1 1 1 1 ∷ []);
 }
 
--- "y = 0 if a exceeds b, otherwise y = 1.": in round 6 station 1 has its own zero and a one, as many of each, and ends with 1
-abbrev pub equal-counts : Case
-equal-counts = record {
-  sheet = head 2 0 0 1 0 1 2 ++ rec 6 2 1 1 0;
-  comes-out = prints (opening 2 0 0 1 6 ∷ good 1 1 0 1 0 ∷ bad 2 ∷ []);
+-- request 6, "In step 4 equal counts now give 0", "A balance always has grade 0": in round 6 station 1 has its own zero and a one, as many of each
+abbrev pub balance : Case
+balance = record {
+  sheet = head 2 0 0 1 0 1 2 ++ rec 5 2 1 0 2 ++ rec 6 2 1 1 0;
+  comes-out = prints (opening 2 0 0 1 6 ∷ good 1 0 0 1 0 ∷ bad 2 ∷ []);
 }
+
+-- the same with its own one and a zero: the value handed in is 1
+abbrev pub balance-of-one : Case
+balance-of-one = record {
+  sheet = head 2 0 0 1 1 1 2 ++ rec 2 2 1 1 2 ++ rec 3 2 1 1 3 ++ rec 5 2 1 1 4 ++ rec 6 2 1 0 0;
+  comes-out = prints (opening 2 0 0 1 6 ∷ good 1 0 0 1 0 ∷ bad 2 ∷ []);
+}
+
+-- none of either: station 2 is silent, and station 1, the sender of a 1, has a blank in each exchange
+abbrev pub balance-of-none : Case
+balance-of-none = record { sheet = head 2 0 0 1 1 0 2; comes-out = prints (opening 2 0 0 1 6 ∷ good 1 0 0 1 0 ∷ bad 2 ∷ []) }
 
 -- ---- garbled ballots (request 4), on a line of three whose station 3 is bad; station 2 is the sender
 
@@ -85,7 +106,7 @@ garbled-sender-and-king = record {
 abbrev pub garbled-twice : Case
 garbled-twice = record {
   sheet = head 3 0 1 1 1 1 6 ++ rec 2 2 1 128 2 ++ rec 2 3 1 7 0;
-  comes-out = prints (opening 3 0 1 1 6 ∷ good 1 1 0 1 1 ∷ bad 2 ∷ bad 3 ∷ []);
+  comes-out = prints (opening 3 0 1 1 6 ∷ good 1 0 0 1 1 ∷ bad 2 ∷ bad 3 ∷ []);
 }
 
 -- ---- marks in all four bytes: "8–11 the marks, bit i−1 for station i"
@@ -98,7 +119,7 @@ all-but-ten = record {
       prints
       (opening 25 0 12 10 6
       ∷ bad 1 ∷ bad 2 ∷ bad 3 ∷ bad 4 ∷ bad 5 ∷ bad 6 ∷ bad 7 ∷ bad 8
-      ∷ bad 9 ∷ good 10 1 0 1 0 ∷ bad 11 ∷ bad 12 ∷ bad 13 ∷ bad 14 ∷ bad 15 ∷ bad 16
+      ∷ bad 9 ∷ good 10 0 0 1 0 ∷ bad 11 ∷ bad 12 ∷ bad 13 ∷ bad 14 ∷ bad 15 ∷ bad 16
       ∷ bad 17 ∷ bad 18 ∷ bad 19 ∷ bad 20 ∷ bad 21 ∷ bad 22 ∷ bad 23 ∷ bad 24
       ∷ bad 25 ∷ []);
 }
@@ -125,8 +146,8 @@ two-digits = record {
       ++ (55 ∷ 32 ∷ 45 ∷ 32 ∷ 45 ∷ 32 ∷ 45 ∷ 32 ∷ 45 ∷ 10 ∷ [])
       ++ (56 ∷ 32 ∷ 45 ∷ 32 ∷ 45 ∷ 32 ∷ 45 ∷ 32 ∷ 45 ∷ 10 ∷ [])
       ++ (57 ∷ 32 ∷ 45 ∷ 32 ∷ 45 ∷ 32 ∷ 45 ∷ 32 ∷ 45 ∷ 10 ∷ [])
-      ++ (49 ∷ 48 ∷ 32 ∷ 49 ∷ 32 ∷ 48 ∷ 32 ∷ 49 ∷ 32 ∷ 48 ∷ 10 ∷ [])
-      ++ (49 ∷ 49 ∷ 32 ∷ 49 ∷ 32 ∷ 48 ∷ 32 ∷ 49 ∷ 32 ∷ 48 ∷ 10 ∷ []));
+      ++ (49 ∷ 48 ∷ 32 ∷ 48 ∷ 32 ∷ 48 ∷ 32 ∷ 49 ∷ 32 ∷ 48 ∷ 10 ∷ [])
+      ++ (49 ∷ 49 ∷ 32 ∷ 48 ∷ 32 ∷ 48 ∷ 32 ∷ 49 ∷ 32 ∷ 48 ∷ 10 ∷ []));
 }
 
 -- every number of the first line has two digits, and all stations are marked: a listing of 364 bytes, where 457 is the most (`Listing-short` of crate listing)
@@ -173,10 +194,13 @@ case-B-again = record { sheet = case-B .sheet; comes-out = rewritten-as (case-B 
 abbrev pub further : List Case
 further =
     silent-sender
+    ∷ silent-ballots
     ∷ neither-value
     ∷ silent-king
     ∷ unreadable-king
-    ∷ equal-counts
+    ∷ balance
+    ∷ balance-of-one
+    ∷ balance-of-none
     ∷ garbled-exchange
     ∷ garbled-blanks
     ∷ garbled-bystander

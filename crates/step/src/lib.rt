@@ -93,7 +93,7 @@ pub fn z(n: u8, upper: u8, x: u8, count: u8) -> u8
 pub fn y(zeros: u8, ones: u8) -> u8
     ensures { λ r. ⌜ r ≡ y-from zeros ones ⌝ }
 {
-    if ones < zeros { 0 } else { 1 }
+    if ones <= zeros { 0 } else { 1 }
 }
 
 // The count for y.
