@@ -1,62 +1,85 @@
--- What a good station makes of the log's last round: the second round of the last exchange, whose y and grade it ends with. Assumes nothing.
-use Prim.Native.Nat.{ℕ, _+_, _≤_, _<_}
-use mathlib.Core.Path.{_≡_, sym, ap, _∙_}
+-- What a station makes of the last round, the second of the last exchange: it ends with that row's y and grade. Assumes nothing.
+use Prim.Native.Nat.{ℕ, suc, _+_, _*_, _<_}
+use mathlib.Core.Path.{_≡_, refl, sym, ap, _∙_}
 use native.Mathlib.Omega.{arith}
-use Rattle.line.specs.Line.{from-0, rounds, place}
+use lib.Dec.{eqb}
+use Rattle.line.specs.Count.{count}
+use Rattle.line.specs.Line.{Fits, from-0, rounds, place}
 use Rattle.line.specs.Marks.{marked}
 use Rattle.broadcast.specs.Exchange.{Row, seconds, y-of, grade-of, flag-of, second-row, y, grade}
-use Rattle.broadcast.specs.Broadcast.{phases, first-round, x-after, y-after, grade-after, value-of, final-grade, final-flag}
-use Rattle.broadcast.specs.Station.{at}
+use Rattle.broadcast.specs.Broadcast.{second-of, part, phases, first-round, x-after, y-after, grade-after, value-of, final-grade, final-flag}
+use Rattle.broadcast.specs.Station.{next, moved, taken, at, after}
 use Rattle.broadcast.specs.Bytes.{setting, Run, setting-of, log, outcomes}
 use Rattle.broadcast.specs.Guarantees.{Good}
-use Rattle.broadcast.specs.Theorems.{value-at, grade-at, flag-at, last-ballots, Last-round}
+use Rattle.broadcast.specs.Theorems.{value-at, grade-at, flag-at, LastRound, Last-round, Last-row}
 use Rattle.broadcast.proofs.TallyLaws.{blanks-for-neither, balance, one-by-majority, flag-means}
-use Rattle.broadcast.proofs.RowLaws.{seconds-same}
-use Rattle.broadcast.proofs.PartLaws.{first-is}
+use Rattle.broadcast.proofs.RowLaws.{seconds-same, y-same}
+use Rattle.broadcast.proofs.PartLaws.{part-second, first-is}
+use Rattle.broadcast.proofs.RoundLaws.{advance-by, after-round}
 use Rattle.broadcast.proofs.SaidLaws.{sent-second}
 use Rattle.broadcast.proofs.BytesLaws.{log-at, good-value, good-grade, good-flag}
+
+-- the last round is the second of the exchange that all phases precede
+last-is : (t : ℕ) → rounds t ≡ first-round (t + 1) + 1
+last-is t = omega (arith, first-is (t + 1))
+
+-- the grade that a row gives
+grade-by : ℕ → ℕ → ℕ → Row → ℕ
+grade-by n t T row = grade-of n t T (seconds n (y-of n row) row)
+
+by-row : (n t T : ℕ) → Fits n t T → (row : Row)
+    → LastRound (count n (λ i. eqb (row i) 0)) (count n (λ i. eqb (row i) 1)) (y-of n row) (grade-by n t T row) (flag-of (grade-by n t T row))
+unfolding grade-by
+by-row n t T fits row =
+    let zeros = blanks-for-neither n 0 row (omega arith) in
+    let ones = blanks-for-neither n 1 row (omega arith) in
+    record {
+      changeover = λ e. rw (zeros, ones) at (one-by-majority n row e);
+      balance = λ e.
+          let b = balance n t T fits row (zeros ∙ e ∙ sym ones) in
+          (b .value, b .grade, flag-means _ .0 (omega (arith, b .grade)));
+    }
+
+-- ---- in a run
 
 module _ (R : Run) (j : ℕ) (good : Good (R .n) (marked (R .marks)) j) where
   -- the row that station j receives in the last round
   last-row : Row
   last-row i = at (log R) (place (R .n) (rounds (R .t)) i j)
 
-  -- the same, as the last exchange has it
-  run-row : Row
-  run-row = let S = setting-of R in let p = R .t + 1 in second-row S (first-round p) (x-after S (from-0 (R .sender)) (R .value) p) j
-
-  rows-are : (i : ℕ) → i < R .n → last-row i ≡ run-row i
-  unfolding last-row run-row
-  rows-are i h =
-      let e : rounds (R .t) ≡ first-round (R .t + 1) + 1 = omega (arith, first-is (R .t + 1)) in
-      log-at R (rounds (R .t)) i j (omega arith) (omega arith) h (good .0)
-      ∙ rw e (sent-second (setting-of R) (from-0 (R .sender)) (R .value) (R .t + 1) i j)
-
-  counts-are : (v : ℕ) → v ≤ 1 → seconds (R .n) v run-row ≡ last-ballots R j v
+  rows-are : (i : ℕ) → i < R .n
+      → last-row i ≡ second-row (setting-of R) (first-round (R .t + 1)) (x-after (setting-of R) (from-0 (R .sender)) (R .value) (R .t + 1)) j i
   unfolding last-row
-  counts-are v h = sym (seconds-same (R .n) last-row run-row rows-are v) ∙ blanks-for-neither (R .n) v last-row h
+  rows-are i h =
+      log-at R (rounds (R .t)) i j (omega arith) (omega arith) h (good .0)
+      ∙ rw (last-is (R .t)) (sent-second (setting-of R) (from-0 (R .sender)) (R .value) (R .t + 1) i j)
 
-  value-is : value-at (outcomes R) j ≡ y-of (R .n) run-row
-  unfolding outcomes setting phases value-of y-after y run-row
-  value-is = good-value (setting-of R) _ _ _ _ j good
+  value-is : value-at (outcomes R) j ≡ y-of (R .n) last-row
+  unfolding outcomes setting phases value-of y-after y
+  value-is = good-value (setting-of R) _ _ _ _ j good ∙ sym (y-same (R .n) last-row _ rows-are)
 
-  grade-is : grade-at (outcomes R) j ≡ grade-of (R .n) (R .t) (R .T) (seconds (R .n) (y-of (R .n) run-row) run-row)
-  unfolding outcomes setting phases final-grade grade-after grade y run-row
-  grade-is = good-grade (setting-of R) _ _ _ _ j good
+  grade-is : grade-at (outcomes R) j ≡ grade-by (R .n) (R .t) (R .T) last-row
+  unfolding outcomes setting phases final-grade grade-after grade y grade-by
+  grade-is =
+      good-grade (setting-of R) _ _ _ _ j good
+      ∙ sym (rw (y-same (R .n) last-row _ rows-are, seconds-same (R .n) last-row _ rows-are) refl)
 
   flag-is : flag-at (outcomes R) j ≡ flag-of (grade-at (outcomes R) j)
   unfolding outcomes setting final-flag
   flag-is = good-flag (setting-of R) _ _ _ _ j good ∙ ap flag-of (sym (good-grade (setting-of R) _ _ _ _ j good))
 
 pub last-round : Last-round
+unfolding last-row
 last-round R fits j good =
-    let row = run-row R j good in
-    record {
-      changeover = λ e.
-          rw (counts-are R j good 0 (omega arith), counts-are R j good 1 (omega arith)) at
-          (one-by-majority (R .n) row (sym (value-is R j good) ∙ e));
-      balance = λ e.
-          let b = balance (R .n) (R .t) (R .T) fits row (counts-are R j good 0 (omega arith) ∙ e ∙ sym (counts-are R j good 1 (omega arith))) in
-          let g = grade-is R j good ∙ b .grade in
-          (value-is R j good ∙ b .value, g, flag-is R j good ∙ flag-means _ .0 (omega (arith, g)));
-    }
+    rw (flag-is R j good, value-is R j good, grade-is R j good) (by-row (R .n) (R .t) (R .T) fits (last-row R j good))
+
+-- ---- of a single station
+
+pub last-row-of : Last-row
+unfolding taken moved next grade-by after
+last-row-of c fits v rows =
+    let e : rounds (c .t) ≡ suc (3 * c .t + 5) = omega arith in
+    let s = after c v rows (3 * c .t + 5) in
+    let p : part (s .round) ≡ second-of (c .t + 1)
+    = rw (after-round c v rows (3 * c .t + 5), sym e, last-is (c .t)) (part-second (c .t + 1)) in
+    rw (e, advance-by c s (at (rows (suc (3 * c .t + 5)))) p) (by-row (c .n) (c .t) (c .T) fits (at (rows (suc (3 * c .t + 5)))))

@@ -1,5 +1,5 @@
 -- The theorems: each statement of specs/Theorems.antt, under its name, and the law that proves it. Assumes nothing.
-use Rattle.broadcast.specs.Theorems.{First-counts, First-ballots-make-n, Blanks-count-for-neither, Ballots-make-n, Balance-has-grade-0, One-by-majority, Definition-6, Definition-6-alone, Exchange-effect, Exchange-bytes, Kings-word, Log-bytes, Part-by-rounds, Sent-by-rounds, Outcome-bytes, Last-round, Table-effect, Demand-3, Unflagged-agree, Enough-unflagged, Enough-flags, Enough-show, Station-follows-run, Stations-make-run, Done-after-rows, Value-at-sender, Good-ballots-readable, None-marked-none-garbled, Count-by-log, Count-after-rows, Count-without-effect}
+use Rattle.broadcast.specs.Theorems.{First-counts, First-ballots-make-n, Blanks-count-for-neither, Ballots-make-n, Balance-has-grade-0, One-by-majority, Definition-6, Definition-6-alone, Exchange-effect, Exchange-bytes, Kings-word, Log-bytes, Part-by-rounds, Sent-by-rounds, Outcome-bytes, Last-round, Last-row, Table-effect, Demand-3, Unflagged-agree, Enough-unflagged, Enough-flags, Enough-show, Station-follows-run, Stations-make-run, Done-after-rows, Value-at-sender, Good-ballots-readable, None-marked-none-garbled, Count-by-log, Count-after-rows, Count-without-effect}
 use Rattle.line.specs.Ballot.{read-king}
 use Rattle.broadcast.proofs.TallyLaws as tally
 use Rattle.broadcast.proofs.TallyLaws.{first-bytes, firsts-make-n, blanks-for-neither, seconds-make-n, balance, obey-means, obey-king, obey-unreadable}
@@ -61,6 +61,9 @@ outcome-bytes = outcome-ranges-of
 
 pub last-round : Last-round
 last-round = last.last-round
+
+pub last-row : Last-row
+last-row = last.last-row-of
 
 pub table-effect : Table-effect
 table-effect = same-effect

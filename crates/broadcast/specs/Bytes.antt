@@ -1,5 +1,5 @@
 -- Tables, logs and outcomes as lists of bytes (document 01, "Names", "The graded exchange" and "The broadcast"; document 02, request 4).
-use Prim.Native.Nat.{ℕ, zero, suc, _+_, _-_, _/_, _%_}
+use Prim.Native.Nat.{ℕ, zero, suc, _+_, _/_, _%_}
 use mathlib.Core.List.{List, [], _∷_}
 use lib.Dec.{eqb}
 use Rattle.line.specs.Count.{if_then_else_}

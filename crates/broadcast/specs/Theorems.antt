@@ -154,18 +154,29 @@ Sent-by-rounds =
 abbrev pub Outcome-bytes : Type 0
 Outcome-bytes = (R : Run) → OutcomeBytes (R .n) (rounds (R .t)) (marked (R .marks)) (outcomes R)
 
--- how many bytes of the log's last round, to station j, are v
+-- ---- what a good station makes of the last round (request 6)
+
+-- the zeros and ones that it received in it, and what it ends with: a changeover is carried by a majority, and a balance ends with 0, grade 0 and the flag
+pub record LastRound (zeros ones value grade flag : ℕ) : Type 0 where
+  pub changeover : value ≡ 1 → zeros < ones
+  pub balance : zeros ≡ ones → (value ≡ 0) × (grade ≡ 0) × (flag ≡ 1)
+
+-- in a run: how many bytes of the log's last round, to station j, are v
 abbrev pub last-ballots : Run → ℕ → ℕ → ℕ
 last-ballots R j v = count (R .n) (λ i. eqb (at (log R) (place (R .n) (rounds (R .t)) i j)) v)
 
--- request 6, of the bytes of a run: what station j makes of the last round. A changeover is carried by a majority, and a balance keeps 0, with grade 0 and the flag
-pub record LastRound (R : Run) (j : ℕ) : Type 0 where
-  pub changeover : value-at (outcomes R) j ≡ 1 → last-ballots R j 0 < last-ballots R j 1
-  pub balance : last-ballots R j 0 ≡ last-ballots R j 1
-      → (value-at (outcomes R) j ≡ 0) × (grade-at (outcomes R) j ≡ 0) × (flag-at (outcomes R) j ≡ 1)
-
 abbrev pub Last-round : Type 0
-Last-round = (R : Run) → Fits (R .n) (R .t) (R .T) → (j : ℕ) → Good (R .n) (marked (R .marks)) j → LastRound R j
+Last-round =
+    (R : Run) → Fits (R .n) (R .t) (R .T) → (j : ℕ) → Good (R .n) (marked (R .marks)) j
+    → let o = outcomes R in LastRound (last-ballots R j 0) (last-ballots R j 1) (value-at o j) (grade-at o j) (flag-at o j)
+
+-- of a single station, on any rows
+abbrev pub Last-row : Type 0
+Last-row =
+    (c : Setup) → Fits (c .n) (c .t) (c .T) → (v : ℕ) (rows : ℕ → List ℕ)
+    → let s = after c v rows (rounds (c .t)) in
+    let row = at (rows (rounds (c .t))) in
+    LastRound (count (c .n) (λ i. eqb (row i) 0)) (count (c .n) (λ i. eqb (row i) 1)) (s .value) (s .grade) (flag-of (s .grade))
 
 -- the run with another table
 abbrev pub with-table : Run → List ℕ → Run
