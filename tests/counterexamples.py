@@ -15,7 +15,7 @@ import random
 import sys
 
 from model import (BLANK, FIRST, GARBLED, KING, OUTCOME, SECOND, SENDER, SILENCE, Keeping, Numbers, Rules, Run, Station, bit_or, broadcast, broke, exchange,
-                   garbled, garbled_alone, kind_of, log_of, number_broadcast, one_of, received, run_markings, runs_of_bits)
+                   garbled, garbled_alone, kind_of, log_of, number_broadcast, one_of, received, run_markings, runs_of_bits, second_step)
 
 CRATES = pathlib.Path(__file__).resolve().parent.parent / "crates"
 
@@ -30,6 +30,9 @@ EDITED = {
     "silence_counts_for_0": edited(first_value=lambda read: bit_or(0, read)),
     "z_kept_with_fewer": edited(keeps=lambda n, T, count: count + 1 >= n - T),
     "blank_is_zero": edited(second_value=lambda read: bit_or(0, read)),
+    "balance_gives_1": edited(y=lambda zeros, ones: 0 if zeros > ones else 1),
+    "balance_of_none_gives_0": edited(y=lambda zeros, ones: 1 if zeros < ones or zeros == ones > 0 else 0),
+    "grade_of_other_count": edited(graded=lambda y, counts: counts[1 - y]),
     "one_phase_less": edited(phases=lambda t: t),
     "king_obeyed_at_grade_1": edited(obeys=lambda g: g <= 1),
     "king_read_as_0": edited(king_value=lambda y, read: bit_or(0, read)),
@@ -120,6 +123,47 @@ def broken_reading(rules, run):
     return None
 
 
+def broken_second_row(rules, run):
+    """What steps 4 and 5 make of rows of any bytes: of one with as many zeros as ones, and of one that gives 1."""
+    for at in range(0, run.n * run.n, run.n):
+        y, grade, (zeros, ones, _) = second_step(rules, run, run.table[at:at + run.n])
+        if zeros == ones and (y, grade) != (0, 0):
+            return "Balance-has-grade-0"
+        if y == 1 and ones <= zeros:
+            return "One-by-majority"
+    return None
+
+
+def broken_end(theorem, last, value, grade, flag):
+    """What a station ends with, by the bytes that it received in the last round."""
+    zeros, ones = last.count(0), last.count(1)
+    if value == 1 and ones <= zeros:
+        return f"{theorem}, changeover"
+    if zeros == ones and (value, grade, flag) != (0, 0, 1):
+        return f"{theorem}, balance"
+    return None
+
+
+def broken_last_round(rules, run, said, outcomes):
+    """The end of each good station, by the log."""
+    log = log_of(rules, run, said)
+    for j in run.good:
+        last = [log[Rules.offset(run.n, run.rounds, i, j)] for i in range(run.n)]
+        found = broken_end("Last-round", last, *outcomes[j][:3])
+        if found:
+            return found
+    return None
+
+
+def broken_last_row(rules, run):
+    """The end of a single station, on rows of any bytes."""
+    station = Station(rules, run, 0, run.value)
+    for at in range(0, len(run.table), run.n * run.n):
+        row = run.table[at:at + run.n]
+        station.take(row)
+    return broken_end("Last-row", row, station.value, station.grade, rules.flag(station.grade))
+
+
 def broken_ballot(rules, run, r, row):
     """Good stations' ballots are not garbled at those who expect them."""
     kind, one = kind_of(r), one_of(run, r)
@@ -175,7 +219,8 @@ def demand_3(rules, run, rng):
 def any_theorem(rules, run, rng):
     said, outcomes = broadcast(rules, run)
     return (broken_guarantee(run, outcomes) or broken_exchange(rules, run, rng) or broken_reading(rules, run)
-            or broken_station(rules, run, said, outcomes) or broken_count(rules, run, said, outcomes))
+            or broken_station(rules, run, said, outcomes) or broken_count(rules, run, said, outcomes)
+            or broken_last_round(rules, run, said, outcomes) or broken_last_row(rules, run) or broken_second_row(rules, run))
 
 
 def search(rules, broken, tries):

@@ -1,4 +1,4 @@
-"""Document 01's steps with document 02's Tickets 2 to 5, for the tests: the graded exchange, the broadcast with its log, the broadcasts of a number's bits, the
+"""Document 01's steps with document 02's Tickets 2 to 6, for the tests: the graded exchange, the broadcast with its log, the broadcasts of a number's bits, the
 single station, and the checker of logs.
 
 Stations are counted from 0 and rounds from 1, as in the definitions of crate broadcast.
@@ -25,6 +25,10 @@ class Rules:
     first_value = staticmethod(lambda read: bit_or(BLANK, read))
     keeps = staticmethod(lambda n, T, count: count >= n - T)
     second_value = staticmethod(lambda read: bit_or(BLANK, read))
+    # "In step 4 equal counts now give 0": 1 if more ones than zeros, otherwise 0
+    y = staticmethod(lambda zeros, ones: 1 if zeros < ones else 0)
+    # "the count for y"
+    graded = staticmethod(lambda y, counts: counts[y])
     grade = staticmethod(lambda n, t, T, c: 2 if c >= n - t else 1 if c >= n - T else 0)
     flag = staticmethod(lambda g: 1 if g < 2 else 0)
     flag_alone = staticmethod(lambda y, g: 1 if g < 2 else 0)
@@ -97,8 +101,8 @@ def second_step(rules, run, row):
     """Steps 4 and 5: y, the grade, and the three counts."""
     values = [rules.second_value(rules.reading(SECOND, b)) for b in row]
     counts = [values.count(0), values.count(1), values.count(BLANK)]
-    y = 0 if counts[0] > counts[1] else 1
-    return y, rules.grade(run.n, run.t, run.T, counts[y]), counts
+    y = rules.y(counts[0], counts[1])
+    return y, rules.grade(run.n, run.t, run.T, rules.graded(y, counts)), counts
 
 
 def received(rules, run, r, said, j):
