@@ -1,5 +1,5 @@
 """The sheets that the program of crate runs is given: the documents' cases, garbled ballots in every kind of round,
-numbers of several bits, every cause in its variants, causes in conflict, chains of every shape, the longest sheets, and
+numbers of several bits, zeros and ones in balance, every cause in its variants, causes in conflict, chains of every shape, the longest sheets, and
 sheets drawn by lot, many of them damaged.
 
 Each has the length of the table that is lent with it. Those that are not drawn have the answer that the documents give.
@@ -72,7 +72,7 @@ def filler(w=0):
     return given(0, chained(call, [at_place(p, 7 * q % 255) for q, p in enumerate(place_numbers(call))]))
 
 
-# ---- document 01's cases, B as Ticket 2 has it, with Ticket 4's count, which is 0 in all of them
+# ---- document 01's cases, with Ticket 4's count, which is 0 in all of them
 
 BAD = [255] * OUTCOME
 
@@ -81,7 +81,7 @@ def worked():
     a = Call(4, 1, 1, 1, 1, 8)
     yield given(0, bytes([4, 1, 1, 1, 1, 0, 0, 0, 8, 0, 0, 0]), outcomes=[1, 2, 0, 0] * 3 + BAD)
     told = [Record(1, 4, 1, 1), Record(1, 4, 2, 0), Record(1, 4, 3, 0)]
-    yield given(0, chained(Call(4, 0, 1, 4, 0, 8), told), outcomes=[1, 1, 1, 0] * 3 + BAD)
+    yield given(0, chained(Call(4, 0, 1, 4, 0, 8), told), outcomes=[0, 1, 1, 0] * 3 + BAD)
     told = [Record(r, 1, j, j - 2) for r in (1, 2, 3, 5, 6) for j in (2, 3)]
     yield given(0, chained(Call(3, 0, 1, 1, 0, 1), told), outcomes=BAD + [0, 1, 1, 0, 1, 1, 1, 0])
     yield given(0, header(Call(1, 0, 0, 1, 0, 0)), outcomes=[0, 2, 0, 0])
@@ -124,7 +124,7 @@ def garbled():
     yield given(0, told_by(first._replace(sender=1), (range(1, 10), all_four, 77)), outcomes=BAD + [0, 2, 0, 8] * 3)
     # two at once: too few are left for a grade
     both = [Record(2, i, j, 77) for i in (3, 4) for j in all_four]
-    yield given(0, chained(LINE, both), outcomes=[1, 0, 1, 1] * 2 + BAD * 2)
+    yield given(0, chained(LINE, both), outcomes=[0, 0, 1, 1] * 2 + BAD * 2)
 
 
 # ---- numbers of several bits
@@ -139,7 +139,7 @@ def of_one_bit():
     both = [Record(r, 1, j, j - 2) for r in (1, 2, 3, 5, 6) for j in (2, 3)]
     for w in 0, 1:
         yield given(0, header(Call(4, 1, 1, 1, 1, 8, w)), outcomes=[1, 2, 0, 0] * 3 + BAD)
-        yield given(0, chained(Call(4, 0, 1, 4, 0, 8, w), [Record(1, 4, j, j == 1) for j in (1, 2, 3)]), outcomes=[1, 1, 1, 0] * 3 + BAD)
+        yield given(0, chained(Call(4, 0, 1, 4, 0, 8, w), [Record(1, 4, j, j == 1) for j in (1, 2, 3)]), outcomes=[0, 1, 1, 0] * 3 + BAD)
         yield given(0, chained(Call(3, 0, 1, 1, 0, 1, w), both), outcomes=BAD + [0, 1, 1, 0, 1, 1, 1, 0])
         yield given(0, header(Call(1, 0, 0, 1, 0, 0, w)), outcomes=[0, 2, 0, 0])
 
@@ -152,8 +152,9 @@ def numbers():
         yield given(0, header(a._replace(value=number, w=w)), outcomes=[number, 2, 0, 0] * 3 + BAD)
     yield given(0, header(Call(1, 0, 0, 1, 200, 0, 8)), outcomes=[200, 2, 0, 0])
     yield given(0, header(Call(1, 0, 0, 1, 255, 1, 8)), outcomes=BAD)
-    # case B in bit 1, silence in bit 0
-    yield given(0, in_bits(Call(4, 0, 1, 4, 0, 8, 2), (1, [1], [4], [1], 1), (1, [1], [4], [2, 3], 0)), outcomes=[2, 1, 1, 0] * 3 + BAD)
+    # case B in bit 0, a one to all in bit 1
+    told = (0, [1], [4], [1], 1), (0, [1], [4], [2, 3], 0), (1, [1], [4], quiet, 1)
+    yield given(0, in_bits(Call(4, 0, 1, 4, 0, 8, 2), *told), outcomes=[2, 1, 1, 0] * 3 + BAD)
     # case C in bit 2 of three: the numbers differ, and all flag
     told = [(2, (1, 2, 3, 5, 6), [1], [j], j - 2) for j in (2, 3)]
     yield given(0, in_bits(Call(3, 0, 1, 1, 0, 1, 3), *told), outcomes=BAD + [0, 1, 1, 0, 4, 1, 1, 0])
@@ -163,10 +164,69 @@ def numbers():
         yield given(0, in_bits(Call(4, 0, 1, 1, number, 8, 2), told), outcomes=[number, 1, 1, 0] * 3 + BAD)
     # two bad ones leave bit 0 with grade 0, and keep the rules in bit 1
     told = (0, [2], [3, 4], range(1, 5), 77), (1, (2, 3, 5, 6, 8, 9), [3, 4], [1, 2], 0)
-    yield given(0, in_bits(LINE._replace(w=2), *told), outcomes=[1, 0, 1, 1] * 2 + BAD * 2)
+    yield given(0, in_bits(LINE._replace(w=2), *told), outcomes=[0, 0, 1, 1] * 2 + BAD * 2)
     # the largest of the bits' counts, not their sum: 1, 0, 3 at station 1, and 2, 1, 0 at station 2
     told = (0, [2], [4], [1], 77), (2, (2, 3, 5), [4], [1], 77), (0, (2, 3), [4], [2], 77), (1, [5], [4], [2], 77)
     yield given(0, in_bits(a._replace(value=5, w=3), *told), outcomes=[5, 2, 0, 3, 5, 2, 0, 2, 5, 2, 0, 0] + BAD)
+
+
+# ---- balances: as many zeros as ones in the second round of an exchange
+
+def in_bit_0(call, *told):
+    """A sheet of these: the rounds, who tells, who is told, and the ballot."""
+    return in_bits(call, *((0, *one) for one in told))
+
+
+def one_good(n, value, *ballots):
+    """Station n alone is good, and sends; t is 0 and T as large as it can be."""
+    return in_bit_0(Call(n, 0, (n - 1) // 2, n, value, 2 ** (n - 1) - 1), *((rounds, froms, [n], b) for rounds, froms, b in ballots))
+
+
+def every_balance():
+    """In the last round, of each count that there can be: beside the station's own blank, with a one more, and in a row without a blank."""
+    for count in range(1, 16):
+        zeros, ones = ([6], range(1, count + 1), 0), range(count + 1, 2 * count + 2)
+        yield given(0, one_good(2 * count + 1, 1, zeros, ([6], ones[:-1], 1)), outcomes=BAD * (2 * count) + [0, 0, 1, 0])
+        yield given(0, one_good(2 * count + 2, 0, zeros, ([6], ones, 1)), outcomes=BAD * (2 * count + 1) + [1, 0, 1, 0])
+    for count in range(1, 17):
+        others = range(1, 2 * count)
+        ballots = ((2, 3, 5), others, 1), ([6], others[:count], 0), ([6], others[count:], 1)
+        yield given(0, one_good(2 * count, 1, *ballots), outcomes=BAD * len(others) + [0, 0, 1, 0])
+
+
+def in_case_c():
+    """Case C, but that in round 6 station 1 sends neither bit to stations 2, 3 or both: each has its own and the other's."""
+    c, as_in_c = Call(3, 0, 1, 1, 0, 1), [((1, 2, 3, 5), [1], [j], j - 2) for j in (2, 3)]
+    for neither, count in (255, 0), (2, 0), (77, 1):
+        balance = [0, 0, 1, count]
+        yield given(0, in_bit_0(c, *as_in_c, ([6], [1], [2], neither), ([6], [1], [3], 1)), outcomes=BAD + balance + [1, 1, 1, 0])
+        yield given(0, in_bit_0(c, *as_in_c, ([6], [1], [2], 0), ([6], [1], [3], neither)), outcomes=BAD + [0, 1, 1, 0] + balance)
+        yield given(0, in_bit_0(c, *as_in_c, ([6], [1], [2, 3], neither)), outcomes=BAD + balance * 2)
+
+
+def before_the_king():
+    """In round 3, a zero and a one at each good station."""
+    # king 1 is good, and its y is 0
+    divided = ([1], [4], [1, 2], 1), ([1], [4], [3], 0), ([2], [4], [1], 1), ([3], [4], [1, 2, 3], 0)
+    yield given(0, in_bit_0(Call(4, 0, 1, 4, 1, 8), *divided), outcomes=[0, 1, 1, 0] * 3 + BAD)
+    # king 1 is bad: it is silent, garbled, or tells a bit
+    divided = ([1, 2], [1], [2], 0), ([1], [1], [3], 1), ([3], [1], [2, 3], 1)
+    for king, value, count in (255, 0, 0), (77, 0, 1), (0, 0, 0), (1, 1, 0):
+        yield given(0, in_bit_0(Call(3, 0, 1, 1, 1, 1), *divided, ([4], [1], [2, 3], king)), outcomes=BAD + [value, 1, 1, count] * 2)
+
+
+def balances():
+    yield from every_balance()
+    yield from in_case_c()
+    yield from before_the_king()
+    # the largest T: 15 ones of good stations and 15 zeros of bad ones; at station 32 a zero fewer
+    bad, good = range(1, 16), range(16, 33)
+    divided = ([1, 4], [1], good[:-1], 1), ([1, 4], [1], [32], 0), ([5], [1], good[:15], 1), ([6], bad[:-1], good, 0), ([6], [15], good[:-1], 0)
+    yield given(0, in_bit_0(Call(32, 0, 15, 1, 1, 2 ** 15 - 1), *divided), outcomes=BAD * 15 + [0, 0, 1, 0] * 16 + [1, 0, 1, 0])
+    # in one bit of two
+    for bit, number in (0, 2), (1, 1):
+        ones = [(b, (2, 3, 5, 6)[:3 if b == bit else 4], [2], [1], 1) for b in (0, 1)]
+        yield given(0, in_bits(Call(2, 0, 0, 1, 3, 2, 2), *ones, (bit, [6], [2], [1], 0)), outcomes=[number, 0, 1, 0] + BAD)
 
 
 # ---- causes 1 to 8, one at a time
@@ -547,7 +607,7 @@ EIGHT_BITS = Call(12, 3, 4, 7, 171, 0b101101, 8)
 
 
 def fixed(lot):
-    for group in (worked(), garbled(), numbers(), sheet_form(), widths(), line_numbers(), sender_and_value(), marks(), table_lengths(),
+    for group in (worked(), garbled(), numbers(), balances(), sheet_form(), widths(), line_numbers(), sender_and_value(), marks(), table_lengths(),
                   chains(), records(), bits_of_records(), places(), conflicts(), longest(lot, LARGEST_LINE, True), longest(lot, EIGHT_BITS, False)):
         yield from group
 
