@@ -218,6 +218,25 @@ static void worked_out(int value)
     }
 }
 
+/* Case C, but that in round 6 station 1 says nothing: stations 2 and 3 have a zero
+   and a one each, and end with 0 and grade 0. Whoever changes over breaks the
+   rules. */
+static void balance(void)
+{
+    static const int told[] = {1, 2, 3, 5};
+    const struct checking c = {3, 0, 1, 1, NULL, 0, NULL, 0};
+    memset(table, 255, sizeof table);
+    for (int k = 0; k < 4; k++) {
+        table[place(&c, told[k], 1, 2)] = 0;
+        table[place(&c, told[k], 1, 3)] = 1;
+    }
+    rehearse(&base, c.n, c.t, c.T, c.sender, 0, 1);
+    check(answers(&base.k, 1), "a zero and a one each");
+    outcome_byte(2, 0, 1, 1 | 2);
+    outcome_byte(3, 0, 1, 1 | 4);
+    outcome_byte(3, 1, 1, 1 | 4);
+}
+
 /* Bit 31 too. */
 static void all_of_32(void)
 {
@@ -336,6 +355,7 @@ int main(void)
     printf("causes alone and in pairs: %lu tests\n", passed + failed);
     worked_out(0);
     worked_out(1);
+    balance();
     all_of_32();
     for (int i = 0; i < BLOCKS; i++)
         block();

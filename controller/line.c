@@ -515,6 +515,14 @@ static void garbled_case(const struct line *a)
     check_case('A', a, WANT{1, 2, 0, 2, 1, 2, 0, 1, 1, 2, 0, 0, BAD});
 }
 
+/* Case C, but that in round 6 station 1 says nothing: stations 2 and 3 have a zero
+   and a one each, keep 0 with grade 0, and flag. */
+static void balance_case(const struct line *c)
+{
+    table[place(c, 6, 1, 2)] = table[place(c, 6, 1, 3)] = 255;
+    check_case('C', c, WANT{BAD, 0, 0, 1, 0, 0, 0, 1, 0});
+}
+
 /* With w 0, and with w 1, which it stands for. */
 static void cases(uint8_t w)
 {
@@ -527,13 +535,14 @@ static void cases(uint8_t w)
     memset(table, 255, sizeof table);
     table[place(&b, 1, 4, 1)] = 1;
     table[place(&b, 1, 4, 2)] = table[place(&b, 1, 4, 3)] = 0;
-    check_case('B', &b, WANT{1, 1, 1, 0, 1, 1, 1, 0, 1, 1, 1, 0, BAD});
+    check_case('B', &b, WANT{0, 1, 1, 0, 0, 1, 1, 0, 0, 1, 1, 0, BAD});
     memset(table, 255, sizeof table);
     for (int k = 0; k < 5; k++) {
         table[place(&c, told[k], 1, 2)] = 0;
         table[place(&c, told[k], 1, 3)] = 1;
     }
     check_case('C', &c, WANT{BAD, 0, 1, 1, 0, 1, 1, 1, 0});
+    balance_case(&c);
     check_case('D', &d, WANT{0, 2, 0, 0});
     check_case('D', &bad, WANT{BAD});
 }

@@ -1,6 +1,6 @@
 /*
  * The station's calls, the writer's and the checker's written once more, in C
- * from documents 01 and 02 (Tickets 1 to 5), for the tests: the judgement, the
+ * from documents 01 and 02 (Tickets 1 to 6), for the tests: the judgement, the
  * steps of a station that is accepted, the sheet that is written, and the set of
  * stations that broke the rules. Shares no code with the library.
  */
@@ -152,7 +152,7 @@ static inline void first_row(struct call *c)
     c->z = same >= c->n - c->T ? c->x : 2;
 }
 
-/* Steps 3 to 5: y and the grade. */
+/* Steps 3 to 5: y and the grade. "In step 4 equal counts now give 0". */
 static inline void second_row(struct call *c)
 {
     int zeros = 0, ones = 0;
@@ -160,7 +160,7 @@ static inline void second_row(struct call *c)
         zeros += c->row[i] == 0;
         ones += c->row[i] == 1;
     }
-    c->x = zeros > ones ? 0 : 1;
+    c->x = ones > zeros ? 1 : 0;
     int count = c->x == 0 ? zeros : ones;
     c->grade = count >= c->n - c->t ? 2 : count >= c->n - c->T ? 1 : 0;
 }

@@ -167,12 +167,12 @@ static const uint8_t b_read[] = {TO_ALL(255), TO_ALL(255), TO_ALL(255), LIAR, FI
 static const uint8_t b_table[] = {TO_ALL(9), TO_ALL(9), TO_ALL(9), LIAR, FIVE(NO_EFFECT)};
 /* Its header with another first index: written with that table, it is the sheet. */
 static const uint8_t b_header[] = {4, 0, 1, 4, 0, 0, 77, 88, 8, 0, 0, 0};
-/* x is 1, 0, 0, and silence counts for neither: every z is blank, y 1 with grade
-   0; the king, station 1, sends 1; then three ones are grade 1. */
+/* x is 1, 0, 0, and silence counts for neither: every z is blank, y 0 with grade
+   0; the king, station 1, sends 0; then three zeros are grade 1. */
 static const uint8_t b_log[] = {TO_ALL(255), TO_ALL(255), TO_ALL(255), LIAR, ROUND(1, 0, 0, 255),
-                                ROUND(2, 2, 2, 255), ROUND(1, 255, 255, 255), ROUND(1, 1, 1, 255),
-                                ROUND(1, 1, 1, 255)};
-static const uint8_t b_outcomes[] = {1, 1, 1, 0, 1, 1, 1, 0, 1, 1, 1, 0, TO_ALL(255)};
+                                ROUND(2, 2, 2, 255), ROUND(0, 255, 255, 255), ROUND(0, 0, 0, 255),
+                                ROUND(0, 0, 0, 255)};
+static const uint8_t b_outcomes[] = {0, 1, 1, 0, 0, 1, 1, 0, 0, 1, 1, 0, TO_ALL(255)};
 
 /* The same line, none bad, station 3 sends a one. */
 static const uint8_t good_table[] = {NO_EFFECT, FIVE(NO_EFFECT)};
@@ -188,9 +188,9 @@ static const uint8_t good_outcomes[] = {1, 2, 0, 0, 1, 2, 0, 0, 1, 2, 0, 0, 1, 2
 static const uint8_t garbled_table[] = {TO_ALL(9), TO_ALL(9), TO_ALL(9), LIAR, NO_EFFECT, TOLD_BY_4(2, 255),
                                         TOLD_BY_4(255, 2), TOLD_BY_4(255, 2), NO_EFFECT};
 static const uint8_t garbled_log[] = {TO_ALL(255), TO_ALL(255), TO_ALL(255), LIAR, ROUND(1, 0, 0, 255),
-                                      HEARD_OF_4(2, 2, 2, 2, 255), HEARD_OF_4(1, 255, 255, 255, 2),
-                                      HEARD_OF_4(1, 1, 1, 255, 2), ROUND(1, 1, 1, 255)};
-static const uint8_t garbled_outcomes[] = {1, 1, 1, 0, 1, 1, 1, 1, 1, 1, 1, 0, TO_ALL(255)};
+                                      HEARD_OF_4(2, 2, 2, 2, 255), HEARD_OF_4(0, 255, 255, 255, 2),
+                                      HEARD_OF_4(0, 0, 0, 255, 2), ROUND(0, 0, 0, 255)};
+static const uint8_t garbled_outcomes[] = {0, 1, 1, 0, 0, 1, 1, 1, 0, 1, 1, 0, TO_ALL(255)};
 
 /* Two bits of the same line, as a sheet whose chain is in no order, and written
    anew: by bit, then round. */
@@ -235,12 +235,20 @@ static const uint8_t alone_table[] = {SIX(9), SIX(9), SIX(9), SIX(9), SIX(9), SI
 static const uint8_t alone_log[] = {SIX(1), SIX(1), SIX(1), SIX(1), SIX(1), SIX(1), SIX(1), SIX(1)};
 static const uint8_t alone_outcomes[] = {255, 2, 0, 0};
 
-/* Case B's first exchange, had alone: garbled in no round, in the second, in
-   both. */
+/* Case B's first exchange, had alone: neither zeros nor ones. Garbled in no round,
+   in the second, in both. */
 static const uint8_t inputs[] = {1, 0, 0, 9};
 static const uint8_t exchange_table[] = {TO_ALL(9), TO_ALL(9), TO_ALL(9), 255, 255, 2, 255,
                                          TO_ALL(9), TO_ALL(9), TO_ALL(9), 2, 3, 254, 255};
-static const uint8_t exchange_outcomes[] = {1, 0, 1, 0, 1, 0, 1, 1, 1, 0, 1, 2, TO_ALL(255)};
+static const uint8_t exchange_outcomes[] = {0, 0, 1, 0, 0, 0, 1, 1, 0, 0, 1, 2, TO_ALL(255)};
+
+/* Another exchange of the same line: station 4 tells station 1 a one, whose z is 1
+   then, the others' blank; and in the second round stations 1 and 2 a zero. These
+   have a zero and a one, and leave it with 0; station 3 has the one alone. */
+static const uint8_t balance_inputs[] = {1, 1, 0, 9};
+static const uint8_t balance_table[] = {TO_ALL(9), TO_ALL(9), TO_ALL(9), 1, 255, 255, 255,
+                                        TO_ALL(9), TO_ALL(9), TO_ALL(9), 0, 0, 2, 255};
+static const uint8_t balance_outcomes[] = {0, 0, 1, 0, 0, 0, 1, 0, 1, 0, 1, 0, TO_ALL(255)};
 
 /* Rows of a line of 16 with t 2 and T 5: n-T is 11, n-t is 14. The second has
    garbled ballots. */
@@ -313,6 +321,9 @@ static const struct example examples[] = {
     {.call = EXCHANGE, .byte = {4, 0, 1}, .marks = 8, .before = {inputs, exchange_table},
      .len = {sizeof inputs, sizeof exchange_table, sizeof exchange_outcomes},
      .after = {NULL, NULL, exchange_outcomes}},
+    {.call = EXCHANGE, .byte = {4, 0, 1}, .marks = 8, .before = {balance_inputs, balance_table},
+     .len = {sizeof balance_inputs, sizeof balance_table, sizeof balance_outcomes},
+     .after = {NULL, NULL, balance_outcomes}},
 };
 
 enum { EXAMPLES = sizeof examples / sizeof examples[0] };

@@ -1,9 +1,9 @@
 /*
  * Every refusal of the station's calls through C, alone and in pairs; calls at
  * the edges, with every value of each byte of a state and by lot against the
- * documents written once more (model.h); garbled ballots, worked out; rows
- * between pages that can't be touched. Every row is given to the lent station
- * too, which stands at the edges of such a page.
+ * documents written once more (model.h); garbled ballots, worked out; rows with
+ * as many zeros as ones; rows between pages that can't be touched. Every row is
+ * given to the lent station too, which stands at the edges of such a page.
  */
 #define _DEFAULT_SOURCE
 #include "check.h"
@@ -431,6 +431,48 @@ static void garbled_ballots(void)
     whole_counts();
 }
 
+/* ---- As many zeros as ones ---- */
+
+/* Value and grade after a row of so many of each, with bytes that count for
+   neither in its other places; the state's other bytes as 0. */
+static uint64_t value_and_grade(int which, struct call c, int zeros, int ones)
+{
+    static const uint8_t neither[] = {2, 255, 77};
+    uint8_t row[32];
+    for (int i = 0; i < c.n; i++)
+        row[i] = i < zeros ? 0 : i < zeros + ones ? 1 : neither[i % 3];
+    c.row = row;
+    return library(which, &c) & bytes5(0, 255, 0, 255, 0);
+}
+
+/* Equal counts give 0 with grade 0, and a one more gives 1. */
+static void balance(const struct call *c, int count)
+{
+    for (int which = ADVANCE; which <= LENT; which *= 2) {
+        uint64_t equal = value_and_grade(which, *c, count, count);
+        check(equal == 0, "n %d t %d T %d round %d: %d of each: %010llx", c->n, c->t, c->T, c->round, count,
+              (unsigned long long)equal);
+        if (2 * count < c->n)
+            check((value_and_grade(which, *c, count, count + 1) >> 8 & 255) == 1, "n %d: %d ones, one fewer zeros",
+                  c->n, count + 1);
+    }
+}
+
+/* Each count that there can be, none too, with the largest t and with the largest
+   T, in the first exchange and in the last, of a station whose value was either
+   and whose grade was 2. */
+static void balances(void)
+{
+    for (int i = 0; i < 32 * 8; i++) {
+        int n = 1 + i / 8, t = i % 2 == 0 ? (n - 1) / 3 : 0, T = i % 2 == 0 ? t : (n - 1) / 2;
+        struct call c = accepted(n, t, T);
+        c.round = i / 2 % 2 == 0 ? 3 : rounds(t);
+        c.x = i / 4 % 2;
+        for (int count = 0; 2 * count <= n; count++)
+            balance(&c, count);
+    }
+}
+
 /* ---- By lot ---- */
 
 static unsigned long met[CALLS][NUMBERS];
@@ -624,6 +666,7 @@ int main(void)
     part("calls at the edges", edges);
     part("every value of each byte of a state", each_byte);
     part("garbled ballots", garbled_ballots);
+    part("as many zeros as ones", balances);
     part("calls by lot", by_lot);
     part("rows at the edges of a page", all_guarded_rows);
     part("stations with refused rows between", whole_stations);

@@ -24,7 +24,7 @@
  *     row       the n bytes that a station received in a round
  *     exchange  two rounds: all send their value, then their z, which is that
  *               value if at least n - upper ballots had it, otherwise blank.
- *               The new value is the bit that more z have, 1 if as many
+ *               The new value is 1 if more z are ones than zeros, otherwise 0
  *     grade     how many z have it: 2 if at least n - t, else 1 if at least
  *               n - upper, else 0
  *     flag      1 exactly if the last grade is below 2. At a good station a
@@ -79,8 +79,8 @@
  * tell theirs: take them and the headers from one version.
  */
 #define VEMBOPU_VERSION_MAJOR 1
-#define VEMBOPU_VERSION_MINOR 5
-#define VEMBOPU_VERSION "1.5"
+#define VEMBOPU_VERSION_MINOR 6
+#define VEMBOPU_VERSION "1.6"
 
 #ifdef __cplusplus
 extern "C" {
