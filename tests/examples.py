@@ -2,9 +2,9 @@
 """The examples: run sheets, each with the text that it stands for and its listing; logs with outcomes, each with the stations that broke the rules.
 
 examples.py          writes the sheets and listings of examples/: the documents' cases A to D, a line with garbled ballots and silence, a recipe number with
-                     a liar in one bit, the largest number beside a bad station, a large run in which ten bad stations divide the good ones, the longest
-                     listing, and an untidy sheet beside the tidy one that it is rewritten to. The texts are written by hand, the picture of case C by
-                     ./draw. Then the logs and outcomes, of case A's run and of another maker's, with what the program audit prints of them
+                     a liar in one bit, the largest number beside a bad station, zeros and ones in balance, a large run in which ten bad stations divide
+                     the good ones, the longest listing, and an untidy sheet beside the tidy one that it is rewritten to. The texts are written by hand,
+                     the picture of case C by ./draw. Then the logs and outcomes, of case A's run and of another maker's, with what the program audit prints of them
 examples.py --check  holds each sheet to the one made here and to its text, its listing to the model's, and what the program agree prints to the listing; then
                      some inputs of odd lengths. Holds what the program rewrite writes of all of these, and of the sheets of crate runs, to the model's normal
                      form. Holds each log to the one made here, its set to the model's and to the least of all markings, and what the program audit prints to
@@ -129,6 +129,12 @@ def widest():
     return sheet_of(4, 1, 1, 1, 255, [4], [(2, 4, 1, 77, 7), (2, 4, 2, 77, 7), (3, 4, 2, 77, 7)], w=8)
 
 
+def balance():
+    """Two bad stations of five, t 0, T 2. In round 6 stations 3 and 4 have two zeros and two ones: they keep 0, with grade 0. Station 5 has two ones and a zero."""
+    divided = [(r, 1, j, ballot) for ballot, to in ((1, (3, 4)), (0, (5,))) for r in (1, 4) for j in to]
+    return sheet_of(5, 0, 2, 1, 1, [1, 2], divided + [(5, 1, j, 1) for j in (3, 4)] + [(6, i, j, 0) for i, to in ((1, (3, 4, 5)), (2, (3, 4))) for j in to])
+
+
 def longest():
     """The sheet of the longest listing: n, t, T, the sender, R and the counts have two digits, the numbers three. Only a bad station's ballots can be garbled, and
     its own line is the shorter, so there is one: station 1, a king, garbled in every round of bit 7. The good sender's number is 255."""
@@ -175,6 +181,7 @@ def sheets():
         "garbled": garbled(),
         "recipe": recipe(),
         "widest": widest(),
+        "balance": balance(),
         "large": large(),
         "longest": longest(),
         UNTIDY: untidy(),
