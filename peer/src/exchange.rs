@@ -63,9 +63,9 @@ fn z_of(line: &Line, x: u8, equal: u8) -> u8 {
     }
 }
 
-/// Steps 4 and 5, by the zeros and ones.
+/// Steps 4 and 5, by the zeros and ones: y is 1 if the ones exceed the zeros, "equal counts now give 0".
 fn graded_of(line: &Line, zeros: u8, ones: u8) -> (u8, u8) {
-    let (y, backing) = if zeros > ones { (0, zeros) } else { (1, ones) };
+    let (y, backing) = if ones > zeros { (1, ones) } else { (0, zeros) };
     let grade = if backing >= line.full_quorum() {
         2
     } else if backing >= line.quorum() {

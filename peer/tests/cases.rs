@@ -24,12 +24,12 @@ fn case_a() {
     assert_eq!(listing(&sheet), "agree 4 1 1 1 9\n1 1 2 0 0\n2 1 2 0 0\n3 1 2 0 0\n4 - - - -\n");
 }
 
-/// As Ticket 2 has it.
+/// As Ticket 6 has it.
 #[test]
 fn case_b() {
     let told = [record(1, 4, 1, 1), record(1, 4, 2, 0), record(1, 4, 3, 0)];
     let sheet = write(&header(4, 0, 1, 4, 0, 0b1000), &told);
-    assert_eq!(listing(&sheet), "agree 4 0 1 4 6\n1 1 1 1 0\n2 1 1 1 0\n3 1 1 1 0\n4 - - - -\n");
+    assert_eq!(listing(&sheet), "agree 4 0 1 4 6\n1 0 1 1 0\n2 0 1 1 0\n3 0 1 1 0\n4 - - - -\n");
     assert_eq!(rewritten(&sheet), sheet);
     // in another order, with silence told, and with a record that isn't chained
     let told = [told[2], record(6, 4, 4, 255), told[0], told[1]];

@@ -186,8 +186,12 @@ fn meanings_stand_above_the_rounds() {
             let terms = shown.texts.iter().filter(|text| text.words == term && text.area.0 == 24.0);
             assert!(terms.filter(|text| text.area.3 < rounds).count() >= 1, "{term}");
         }
-        // how a ballot other than 0 or 1 counts, each in one line
+        // how a ballot other than 0 or 1 counts, and what a balance gives, each in one line
         for (begins, ends) in [
+            (
+                "what most ballots of the second round say",
+                "1 if more ones than zeros, otherwise 0; blanks don't count",
+            ),
             ("one station a phase: with grade 0", "the king's 0 or 1 as its new x, otherwise its own y"),
             ("the byte that one tells another", "it counts for neither, but in round 1 it is read as 0"),
         ] {

@@ -146,6 +146,25 @@ fn demand_2() {
     }
 }
 
+/// "A changeover that nobody carries by majority should not happen": a good station decides 1 exactly if more ones than zeros
+/// reached it in the last round.
+#[test]
+fn a_changeover_is_carried_by_a_majority() {
+    let (mut lot, mut balances) = (Lot(17), [0; 2]);
+    for _ in 0..6_000 {
+        let header = lot.header(9);
+        let line = header.judge().unwrap();
+        let (log, outcomes) = run(&header, &lot.table(&line));
+        for own in good(&header) {
+            let heard = column(&line, &log, line.rounds(), own);
+            let [zeros, ones] = [0, 1].map(|bit| heard.iter().filter(|&&byte| byte == bit).count());
+            assert_eq!(outcome(&outcomes, own).value == 1, ones > zeros, "{header:?} {heard:?}");
+            balances[usize::from(zeros > 0)] += usize::from(zeros == ones);
+        }
+    }
+    assert!(balances.iter().all(|&many| many > 100), "{balances:?}");
+}
+
 /// Whether a station should speak in a round.
 fn speaks(header: &Header, line: &Line, round: u8, station: u8) -> bool {
     match line.part(round) {

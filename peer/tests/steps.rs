@@ -42,10 +42,49 @@ fn steps_4_and_5() {
     assert_eq!(graded([0, 0, 0, 0, 2, 2, 2]), (0, 0));
     assert_eq!(graded([1, 1, 1, 1, 1, 1, 255]), (1, 2));
     assert_eq!(graded([1, 1, 1, 1, 1, 0, 0]), (1, 1));
-    // equal counts give 1, also where all are blank
-    assert_eq!(graded([0, 0, 0, 1, 1, 1, 2]), (1, 0));
-    assert_eq!(graded([2; 7]), (1, 0));
+    assert_eq!(graded([1, 1, 1, 1, 0, 0, 0]), (1, 0));
+    // equal counts give 0, also where all are blank; a one more gives 1
+    assert_eq!(graded([0, 0, 0, 1, 1, 1, 2]), (0, 0));
+    assert_eq!(graded([1, 255, 2, 77, 2, 2, 0]), (0, 0));
+    assert_eq!(graded([2; 7]), (0, 0));
+    assert_eq!(graded([2, 2, 2, 1, 2, 2, 2]), (1, 0));
     assert_eq!([flag(0), flag(1), flag(2)], [1, 1, 0]);
+}
+
+/// Every line that is accepted.
+fn lines() -> impl Iterator<Item = Line> {
+    let upper = |n| (0..=n).flat_map(move |t| (t..=n).map(move |upper| (n, t, upper)));
+    (1..=32).flat_map(upper).filter_map(|(n, t, upper)| Line::new(n, t, upper).ok())
+}
+
+/// What a second round's row of this line with so many zeros and ones gives.
+fn graded(line: &Line, zeros: u8, ones: u8) -> (u8, u8) {
+    let neither = line.n() as u8 - zeros - ones;
+    Tally { zeros, ones, neither, garbled: 0 }.graded(line)
+}
+
+/// "In step 4 equal counts now give 0", and "A balance always has grade 0".
+#[test]
+fn a_balance_has_grade_0() {
+    for line in lines() {
+        for many in 0..=line.n() as u8 / 2 {
+            assert_eq!(graded(&line, many, many), (0, 0), "{line:?}, {many} and {many}");
+        }
+    }
+}
+
+/// y is 1 exactly where a majority carries it; the grade goes by how many ballots are for y.
+#[test]
+fn every_count_of_every_line() {
+    for line in lines() {
+        let n = line.n() as u8;
+        for (zeros, ones) in (0..=n).flat_map(|zeros| (0..=n - zeros).map(move |ones| (zeros, ones))) {
+            let (y, grade) = graded(&line, zeros, ones);
+            let for_y = if y == 1 { ones } else { zeros };
+            let expected = u8::from(for_y >= n - line.t()) + u8::from(for_y >= n - line.upper());
+            assert_eq!((y == 1, grade), (ones > zeros, expected), "{line:?}, {zeros} and {ones}");
+        }
+    }
 }
 
 #[test]
@@ -55,8 +94,8 @@ fn an_exchange_of_four() {
         alone((4, 1, 1), Marks(marks), &inputs, table, &mut outcomes).unwrap();
         outcomes
     };
-    // all good, two and two: all blank, so 1 with grade 0
-    assert_eq!(exchange([0, 0, 1, 1], 0, &[0; 32])[..], [[1, 0, 1, 0]; 4].concat());
+    // all good, two and two: all blank, so 0 with grade 0
+    assert_eq!(exchange([0, 0, 1, 1], 0, &[1; 32])[..], [[0, 0, 1, 0]; 4].concat());
     // three zeros are n−T: the fourth is blank, and three zeros are n−t
     assert_eq!(exchange([0, 0, 0, 1], 0, &[1; 32])[..], [[0, 2, 0, 0]; 4].concat());
     // station 4 bad: a foreign byte counts for neither value, so two of three are too few, and all are blank; blank is
@@ -73,8 +112,22 @@ fn an_exchange_of_four() {
         };
         foreign([1, 1, 1, 99], [1, 2, 0]);
         foreign([0, 0, 0, 99], [0, 2, 0]);
-        foreign([0, 0, 1, 99], [1, 0, 1]);
-        foreign([1, 1, 0, 99], [1, 0, 1]);
+        foreign([0, 0, 1, 99], [0, 0, 1]);
+        foreign([1, 1, 0, 99], [0, 0, 1]);
+    }
+}
+
+/// Station 4 is bad and makes station 1's z its x, while the other two are blank. In the second round it tells station 1 the
+/// other value, which makes a balance, station 2 nothing and station 3 the same value.
+#[test]
+fn an_exchange_of_four_that_balances() {
+    for x in [0, 1] {
+        let mut table = [255; 32];
+        table[12] = x;
+        table[28..31].copy_from_slice(&[1 - x, 255, x]);
+        let mut outcomes = [9; 16];
+        alone((4, 1, 1), Marks(0b1000), &[x, x, 1 - x, 99], &table, &mut outcomes).unwrap();
+        assert_eq!(outcomes[..], [[0, 0, 1, 0], [x, 0, 1, 0], [x, 0, 1, 0], [255; 4]].concat(), "x {x}");
     }
 }
 
@@ -100,8 +153,9 @@ fn a_station_of_one_round_after_another() {
     // king 2 is not obeyed at grade 2, and its garbled ballot is counted
     assert_eq!(step(255, [0, 2, 0, 0]), (8, 1, 2, 2, 3));
     assert_eq!(step(1, [1, 1, 1, 0]), (9, 1, 1, 2, 3));
-    assert_eq!(step(1, [2, 2, 2, 2]), (10, 1, 1, 0, 3));
-    assert_eq!(station.result(), Ok(Answer::Done(Outcome { value: 1, grade: 0, flag: 1, count: 3 })));
+    // a balance: y 0 though it stood for 1
+    assert_eq!(step(1, [0, 1, 1, 0]), (10, 0, 1, 0, 3));
+    assert_eq!(station.result(), Ok(Answer::Done(Outcome { value: 0, grade: 0, flag: 1, count: 3 })));
 }
 
 #[test]
@@ -156,26 +210,48 @@ fn a_foreign_king_leaves_y() {
         assert_eq!((station.round, station.grade), (4, 0));
         station.take(&[255; 4]).unwrap().ballot().unwrap()
     };
-    // x 1, then two zeros beside two blanks; x 0, then blanks only
+    // x 1, then two zeros beside two blanks; x 0, then two ones
     assert_eq!(left_with([[255, 1, 255, 255], [0, 0, 1, 1], [0, 0, 2, 2]]), 0);
-    assert_eq!(left_with([[255, 0, 255, 255], [1, 1, 0, 0], [2, 2, 2, 2]]), 1);
+    assert_eq!(left_with([[255, 0, 255, 255], [1, 1, 0, 0], [2, 1, 2, 1]]), 1);
+    // x 1, then a balance
+    assert_eq!(left_with([[255, 1, 255, 255], [0, 0, 1, 1], [2, 2, 2, 2]]), 0);
+    assert_eq!(left_with([[255, 1, 255, 255], [0, 0, 1, 1], [0, 1, 2, 2]]), 0);
 }
 
-/// The sender is king 1 too. It is bad, tells station 2 a zero and station 4 a one, and is silent otherwise.
-#[test]
-fn the_log_of_a_silent_king() {
+/// A run in which station 1 is bad, the sender and king 1, tells these bytes in the first three rounds and is silent otherwise.
+/// The others send these in the first three rounds, and from round 5 on all of them this value, king 2 too.
+fn a_silent_king(told: [[u8; 4]; 3], sent: [[u8; 3]; 3], value: u8) {
     let mut table = [255; 9 * 16];
-    (table[1], table[3]) = (0, 1);
+    table.chunks_mut(16).zip(told).for_each(|(round, told)| round[..4].copy_from_slice(&told));
     let (mut log, mut outcomes) = ([9; 9 * 16], [9; 16]);
     rehearse(&header(4, 1, 1, 1, 0, 0b0001), &table, &mut log, &mut outcomes).unwrap();
-    // x is 0, 0, 1, each too few for z; y is 1 with grade 0, and king 1 leaves it so; then all have 1, king 2 too
-    let (none, ones) = ([255; 3], [1; 3]);
-    let sent = [none, [0, 0, 1], [2, 2, 2], none, ones, ones, [1, 255, 255], ones, ones];
-    for ((said, ballots), round) in log.chunks(16).zip(sent).zip(1..) {
+    let (none, all) = ([255; 3], [value; 3]);
+    let later = [none, all, all, [value, 255, 255], all, all];
+    for ((said, ballots), round) in log.chunks(16).zip(sent.into_iter().chain(later)).zip(1..) {
         assert_eq!(said[4..], ballots.map(|ballot| [ballot; 4]).concat(), "round {round}");
     }
-    let good = [1, 2, 0, 0];
+    let good = [value, 2, 0, 0];
     assert_eq!(outcomes[..], [[255; 4], good, good, good].concat());
+}
+
+/// A silent king leaves a station of grade 0 with its y, be it 0 or 1.
+#[test]
+fn the_log_of_a_silent_king() {
+    let (none, silence) = ([255; 3], [255; 4]);
+    // station 2's z is its x, the other two are blank: too few for a grade
+    a_silent_king([[255, 0, 0, 1], [255, 0, 255, 255], silence], [none, [0, 0, 1], [0, 2, 2]], 0);
+    a_silent_king([[255, 1, 1, 0], [255, 1, 255, 255], silence], [none, [1, 1, 0], [1, 2, 2]], 1);
+}
+
+/// A balance of blanks alone, and one of a zero and a one: y is 0 at all, also where two of three stood for 1.
+#[test]
+fn the_log_of_a_balance() {
+    let (none, silence) = ([255; 3], [255; 4]);
+    for x in [0, 1] {
+        let (first, x_sent) = ([255, x, x, 1 - x], [x, x, 1 - x]);
+        a_silent_king([first, silence, silence], [none, x_sent, [2, 2, 2]], 0);
+        a_silent_king([first, [255, x, 255, 255], [1 - x; 4]], [none, x_sent, [x, 2, 2]], 0);
+    }
 }
 
 /// Good stations that don't speak are logged as silent.

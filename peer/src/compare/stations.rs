@@ -78,16 +78,32 @@ fn count(lot: &mut Lot, round: u8) -> u8 {
     }
 }
 
-/// A row, mostly of n bytes: any ballots, or ballots of one kind with others near a threshold.
+/// A row, mostly of n bytes: any ballots, as many ones as zeros or nearly so, or one value with others near a threshold.
 fn row(lot: &mut Lot, station: &Station) -> Vec<u8> {
     let n = usize::from(station.n);
     let len = match lot.below(20) {
         0 => lot.pick(&[0, 1, n + 1, n.saturating_sub(1), 32, 33, 2 * n]),
         _ => n,
     };
-    if lot.one_in(3) {
-        return (0..len).map(|_| lot.ballot()).collect();
+    match lot.below(4) {
+        0 => (0..len).map(|_| lot.ballot()).collect(),
+        1 => balanced(lot, len),
+        _ => near_threshold(lot, station, len),
     }
+}
+
+/// As many ones as zeros, or one more or less, among bytes that are neither.
+fn balanced(lot: &mut Lot, len: usize) -> Vec<u8> {
+    let zeros = lot.below(len as u64 / 2 + 1) as usize;
+    let ones = lot.pick(&[zeros, zeros, zeros + 1, zeros.saturating_sub(1)]);
+    let mut row = [vec![0; zeros], vec![1; ones]].concat();
+    row.resize_with(len, || lot.pick(&[2, 2, 3, 254, 255]));
+    lot.shuffle(&mut row);
+    row
+}
+
+/// One value, with any ballots instead of some, as many as a threshold or half of the line.
+fn near_threshold(lot: &mut Lot, station: &Station, len: usize) -> Vec<u8> {
     let mut row = vec![lot.below(2) as u8; len];
     let near = lot.pick(&[station.t, station.upper, station.n / 2]).wrapping_add(lot.below(2) as u8);
     for _ in 0..near.min(station.n) {
@@ -162,4 +178,27 @@ pub fn advance_lent_by(row: &[u8], lent: &mut Lending) -> Compared {
 pub fn result_of(station: &Station) -> Compared {
     let ours = word(station.result().map(result_values), 0);
     compared(ours, difference(ours, ffi::result(station)), |told| told.station(station))
+}
+
+#[cfg(test)]
+mod tests {
+    use super::*;
+    use crate::exchange::Tally;
+
+    /// Balances up to half of the row, and rows with one zero or one one more.
+    #[test]
+    fn balanced_rows() {
+        let mut lot = Lot(1);
+        for len in [0, 1, 2, 5, 32, 33] {
+            let rows: Vec<Vec<u8>> = (0..400).map(|_| balanced(&mut lot, len)).collect();
+            assert!(rows.iter().all(|row| row.len() == len));
+            let tallies = rows.iter().map(|row| Tally::of_second(row));
+            let counts: Vec<(u8, u8)> = tallies.map(|tally| (tally.zeros, tally.ones)).collect();
+            assert!(counts.iter().all(|(zeros, ones)| zeros.abs_diff(*ones) <= 1), "{counts:?}");
+            let half = len as u8 / 2;
+            let wanted = (0..=half).map(|many| (many, many));
+            let wanted = wanted.chain((1..=half).flat_map(|many| [(many, many - 1), (many - 1, many)]));
+            assert!(wanted.clone().all(|wanted| counts.contains(&wanted)), "{len}: {counts:?}");
+        }
+    }
 }

@@ -1,5 +1,5 @@
 //! The thresholds and letters of a run, in a planner's words: document 01, "The graded exchange" and "The
-//! broadcast", with Tickets 2, 4 and 5 of document 02.
+//! broadcast", with Tickets 2, 4, 5 and 6 of document 02.
 
 use super::is_number;
 use crate::line::Line;
@@ -53,7 +53,7 @@ fn letters(line: &Line) -> Vec<Meaning> {
         "x, if at least n\u{2212}T = {quorum} of the ballots it got, its own counted, equal x; otherwise blank. \
          It tells all"
     );
-    let y = "what most ballots of the second round say: 0 if more zeros than ones, otherwise 1; blanks don't count";
+    let y = "what most ballots of the second round say: 1 if more ones than zeros, otherwise 0; blanks don't count";
     let grade = format!(
         "how sure it is of y: 2 with n\u{2212}t = {full} or more ballots for y, else 1 with n\u{2212}T = {quorum} or more, \
          else 0"

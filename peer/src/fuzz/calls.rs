@@ -249,6 +249,18 @@ pub fn logged(lot: &mut Lot, input: &[u8]) -> Logged {
     Logged { numbers: (n, t, upper), sender, ..logged }
 }
 
+/// The sheet that is written of the header's line and its table; the input as a sheet where it would be too long.
+pub fn written(lot: &mut Lot, input: &[u8]) -> Vec<u8> {
+    let header = accepted(&header(input));
+    let table = tables_of(lot, input, &header, lines::line_and_tables(&header).1);
+    let bytes = sheet::write(&header, &[]);
+    let mut written = vec![0; crate::writer::sheet_len(&bytes, &table).unwrap_or(0)];
+    match crate::writer::write(&bytes, &table, &mut written) {
+        Ok(_) => written,
+        Err(_) => sheet(lot, input),
+    }
+}
+
 /// What is told of a log by the checker's answer.
 pub fn of_checked(logged: &Logged, answer: Result<Marks, Cause>) -> Option<Features> {
     answer.ok().map(|broke| of_broken(&lines::line_of(logged.numbers), logged.sender, broke))
@@ -300,13 +312,13 @@ fn station_and_row(lot: &mut Lot, input: &[u8]) -> (Station, Vec<u8>) {
 
 fn advance(lot: &mut Lot, input: &[u8]) -> Tried {
     let (station, row) = station_and_row(lot, input);
-    let accepted = station.take(&row).ok().map(|next| of_row(&station, &next));
+    let accepted = station.take(&row).ok().map(|next| of_row(&station, &row, &next));
     tried_of(stations::advance_by(&station, &row), &station, accepted)
 }
 
 fn advance_lent(lot: &mut Lot, input: &[u8]) -> Tried {
     let (station, row) = station_and_row(lot, input);
-    let accepted = station.take(&row).ok().map(|next| of_row(&station, &next));
+    let accepted = station.take(&row).ok().map(|next| of_row(&station, &row, &next));
     let mut lent = Lending::holding(lot, "the station", &station.to_bytes());
     tried_of(stations::advance_lent_by(&row, &mut lent), &station, accepted)
 }
@@ -360,6 +372,21 @@ mod tests {
             let logged = logged(&mut Lot(seed), &[32, 10, 10, 40]);
             assert_eq!((logged.numbers, logged.sender), ((32, 10, 10), 40));
         }
+    }
+
+    /// An input whose header is refused and one that is short give sheets that are accepted; one with too many ballots stays
+    /// what it is, here refused.
+    #[test]
+    fn a_sheet_that_is_written() {
+        let sheets = |input: &[u8]| [1, 2, 3, 4].map(|seed| sheet::tables(&written(&mut Lot(seed), input)));
+        for input in [&[4, 0, 2, 9, 7, 9, 0, 0, 0xf8, 1, 1, 1, 1, 0][..], &[32, 10, 10, 1]] {
+            let header = accepted(&header(input));
+            assert!(sheets(input).into_iter().all(|read| read.is_ok_and(|(told, _)| told == header)));
+        }
+        let spoken = sheets(&[4, 0, 1, 4, 0, 0, 0, 0, 8, 0, 0, 0, 1, 0, 2]).map(|read| read.unwrap().1);
+        assert!(spoken.iter().any(|table| table[12..16] == [1, 0, 2, 1]), "{spoken:?}");
+        let too_many = [32, 10, 10, 1, 0, 0, 1, 0, 255, 255, 255, 255, 7];
+        assert!(sheets(&too_many).iter().all(Result::is_err));
     }
 
     /// Case A as it stands, and as a station in its first round.

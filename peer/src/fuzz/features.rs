@@ -3,10 +3,14 @@
 use std::collections::BTreeSet;
 
 use super::pool::Features;
+use crate::exchange::Tally;
 use crate::line::{Header, Line, Marks, Part, SILENCE};
 use crate::outcome::{self, Outcome};
 use crate::sheet::{self, HEADER_LEN, RECORD_LEN};
 use crate::station::{Answer, Station};
+
+/// How an exchange's second round is told.
+const SECOND: u8 = 2;
 
 /// These features, at most eight.
 pub fn features(list: &[u8]) -> Features {
@@ -75,11 +79,23 @@ pub fn of_broken(line: &Line, sender: u8, broke: Marks) -> Features {
     features(&[bits(line.n()), bits(line.t().into()), beside(line, broke), many, broke.bad(sender).into()])
 }
 
-/// Of an accepted row: the round's part, the station before and after, whether the round is counted.
-pub fn of_row(station: &Station, next: &Station) -> Features {
+/// Of an accepted row: the round's part, the station before and after, whether the round is counted; of an exchange's second
+/// round how large a balance is.
+pub fn of_row(station: &Station, row: &[u8], next: &Station) -> Features {
     let state = |s: &Station| 9 * s.value + 3 * s.z + s.grade;
-    let counted = next.count - station.count;
-    features(&[bits(station.n.into()), part(station), state(station), state(next), counted])
+    let (counted, part) = (next.count - station.count, part(station));
+    let balance = if part == SECOND { balance(row) } else { 0 };
+    features(&[bits(station.n.into()), part, state(station), state(next), counted, balance])
+}
+
+/// 0 where the zeros and ones of a second round's row are not as many, else 1 and how many bits their number has.
+fn balance(row: &[u8]) -> u8 {
+    let Tally { zeros, ones, .. } = Tally::of_second(row);
+    if zeros == ones {
+        1 + bits(zeros.into())
+    } else {
+        0
+    }
 }
 
 /// Of a station that is refused: its n, and its count beside its round.
@@ -108,7 +124,7 @@ fn part(station: &Station) -> u8 {
     match line.part(station.round) {
         Part::Sender => 0,
         Part::First => 1,
-        Part::Second => 2,
+        Part::Second => SECOND,
         Part::King(king) => 3 + u8::from(king == station.own),
     }
 }
@@ -139,6 +155,17 @@ mod tests {
     fn counts_of_refused_stations() {
         let told = |count| of_refused(&Station::from_bytes([4, 1, 1, 1, 1, 5, 2, 0, 0, count]));
         assert_eq!([4, 5, 6].map(|count| told(count)[..2].to_vec()), [[3, 0], [3, 1], [3, 2]]);
+    }
+
+    #[test]
+    fn balances_of_rows() {
+        let told = |round: u8, row: [u8; 4]| {
+            let station = Station::from_bytes([4, 1, 1, 1, 1, round, 1, 2, 0, 0]);
+            of_row(&station, &row, &station.take(&row).unwrap())
+        };
+        let rows = [[2; 4], [0, 1, 2, 255], [1, 0, 0, 1], [0, 1, 1, 2], [0, 0, 1, 2]];
+        assert_eq!(rows.map(|row| told(3, row)[5]), [1, 2, 3, 0, 0]);
+        assert_eq!(rows.map(|row| told(2, row)[5]), [0; 5]);
     }
 
     #[test]

@@ -4,7 +4,7 @@ use std::io::Write;
 use std::path::{Path, PathBuf};
 use std::process::{Command, Output, Stdio};
 
-use super::calls::{sheet, Call, Tried};
+use super::calls::{sheet, written, Call, Tried};
 use super::features::features;
 use super::pool::Shape;
 use crate::compare::input::Told;
@@ -18,15 +18,20 @@ use crate::writer::rewritten;
 /// The numbers that both programs can tell: the reader's without a lent table.
 const NUMBERS: [u8; 13] = [0, 1, 2, 3, 4, 5, 6, 9, 10, 11, 12, 13, 15];
 
+/// The sheet that an input is to a program.
+type Drawn = fn(&mut Lot, &[u8]) -> Vec<u8>;
 /// What a program must print of a sheet.
 type Wanted = fn(&[u8]) -> Vec<u8>;
 
+/// One in 4 inputs is a line and a table, whose sheet has more ballots than most that are mutated and still accepted.
 pub fn agree(program: &Path) -> Result<Call, String> {
-    call("agree", program, 64, |sheet| listing(sheet).into_bytes())
+    let drawn =
+        |lot: &mut Lot, input: &[u8]| if lot.one_in(4) { written(lot, input) } else { sheet(lot, input) };
+    call("agree", program, 48, drawn, |sheet| listing(sheet).into_bytes())
 }
 
 pub fn rewrite(program: &Path) -> Result<Call, String> {
-    call("rewrite", program, 128, rewritten)
+    call("rewrite", program, 64, sheet, rewritten)
 }
 
 /// A program's file, if it is there.
@@ -36,9 +41,15 @@ pub fn found(name: &str, program: &Path) -> Result<PathBuf, String> {
 }
 
 /// A program as a call. It is a process each time, so few inputs are given to it.
-fn call(name: &'static str, program: &Path, one_in: u64, wanted: Wanted) -> Result<Call, String> {
+fn call(
+    name: &'static str,
+    program: &Path,
+    one_in: u64,
+    drawn: Drawn,
+    wanted: Wanted,
+) -> Result<Call, String> {
     let program = found(name, program)?;
-    let give = move |lot: &mut Lot, input: &[u8]| compare(&program, &sheet(lot, input), wanted);
+    let give = move |lot: &mut Lot, input: &[u8]| compare(&program, &drawn(lot, input), wanted);
     Ok(Call::new(name, Shape::Sheet, one_in, &NUMBERS, give))
 }
 
