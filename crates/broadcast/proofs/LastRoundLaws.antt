@@ -1,23 +1,23 @@
 -- What a station makes of the last round, the second of the last exchange: it ends with that row's y and grade. Assumes nothing.
 use Prim.Native.Nat.{ℕ, suc, _+_, _*_, _<_}
-use mathlib.Core.Path.{_≡_, refl, sym, ap, _∙_}
+use mathlib.Core.Path.{_≡_, refl, sym, _∙_}
 use native.Mathlib.Omega.{arith}
 use lib.Dec.{eqb}
 use Rattle.line.specs.Count.{count}
 use Rattle.line.specs.Line.{Fits, from-0, rounds, place}
 use Rattle.line.specs.Marks.{marked}
 use Rattle.broadcast.specs.Exchange.{Row, seconds, y-of, grade-of, flag-of, second-row, y, grade}
-use Rattle.broadcast.specs.Broadcast.{second-of, part, phases, first-round, x-after, y-after, grade-after, value-of, final-grade, final-flag}
+use Rattle.broadcast.specs.Broadcast.{second-of, part, phases, first-round, x-after, y-after, grade-after, value-of, final-grade}
 use Rattle.broadcast.specs.Station.{next, moved, taken, at, after}
 use Rattle.broadcast.specs.Bytes.{setting, Run, setting-of, log, outcomes}
 use Rattle.broadcast.specs.Guarantees.{Good}
-use Rattle.broadcast.specs.Theorems.{value-at, grade-at, flag-at, LastRound, Last-round, Last-row}
+use Rattle.broadcast.specs.Theorems.{value-at, grade-at, LastRound, Last-round, Last-row}
 use Rattle.broadcast.proofs.TallyLaws.{blanks-for-neither, balance, one-by-majority, flag-means}
 use Rattle.broadcast.proofs.RowLaws.{seconds-same, y-same}
 use Rattle.broadcast.proofs.PartLaws.{part-second, first-is}
 use Rattle.broadcast.proofs.RoundLaws.{advance-by, after-round}
 use Rattle.broadcast.proofs.SaidLaws.{sent-second}
-use Rattle.broadcast.proofs.BytesLaws.{log-at, good-value, good-grade, good-flag}
+use Rattle.broadcast.proofs.BytesLaws.{log-at, good-value, good-grade, outcome-ranges-of}
 
 -- the last round is the second of the exchange that all phases precede
 last-is : (t : ℕ) → rounds t ≡ first-round (t + 1) + 1
@@ -64,14 +64,10 @@ module _ (R : Run) (j : ℕ) (good : Good (R .n) (marked (R .marks)) j) where
       good-grade (setting-of R) _ _ _ _ j good
       ∙ sym (rw (y-same (R .n) last-row _ rows-are, seconds-same (R .n) last-row _ rows-are) refl)
 
-  flag-is : flag-at (outcomes R) j ≡ flag-of (grade-at (outcomes R) j)
-  unfolding outcomes setting final-flag
-  flag-is = good-flag (setting-of R) _ _ _ _ j good ∙ ap flag-of (sym (good-grade (setting-of R) _ _ _ _ j good))
-
 pub last-round : Last-round
 unfolding last-row
 last-round R fits j good =
-    rw (flag-is R j good, value-is R j good, grade-is R j good) (by-row (R .n) (R .t) (R .T) fits (last-row R j good))
+    rw (outcome-ranges-of R .good j good .2, value-is R j good, grade-is R j good) (by-row (R .n) (R .t) (R .T) fits (last-row R j good))
 
 -- ---- of a single station
 
