@@ -25,6 +25,10 @@ ill-formed s = not (eqb (length s) (12 + 8 * records s)) || ltb most-records (re
 unfoldable pub sheet-form : List ℕ → Verdict
 sheet-form s = refused-if (ill-formed s) SheetForm
 
+-- a header handed in by itself (request 1): "A header not of 12 bytes is 1."
+unfoldable pub header-length : List ℕ → Verdict
+header-length h = refused-if (not (eqb (length h) 12)) SheetForm
+
 -- then 15, "right after the sheet's length", and 2 to 6 of the header
 unfoldable pub verdict-to-6 : List ℕ → Verdict
 verdict-to-6 s =

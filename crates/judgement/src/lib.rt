@@ -26,8 +26,8 @@ fn ill_formed(sheet: &[u8]) -> bool
 }
 
 // Cause 1, then 15, then 2 to 6.
-fn to_6(sheet: &[u8]) -> Verdict
-    ensures { λ r. ⌜ r ≡ verdict-to-6 (now (sheet .entry)) ⌝ }
+pub fn to_6(sheet: &[u8]) -> Verdict
+    ensures { λ r. ⌜ Judged (verdict-to-6 (now (sheet .entry))) r ⌝ }
 {
     if ill_formed(sheet) {
         return Verdict::Refused(Cause::SheetForm);

@@ -12,10 +12,10 @@ use Rattle.refusal.specs.declared.cause.Cause.the-variants.{SheetForm}
 use Rattle.refusal.specs.declared.cause.Verdict.the-variants.{Accepted}
 use Rattle.refusal.proofs.VerdictLaws.{refused-false}
 use Rattle.layout.specs.Layout.{byte, header, records}
-use Rattle.judgement.specs.Judgement.{verdict-to-8}
+use Rattle.judgement.specs.Judgement.{header-length, verdict-to-8}
 use Rattle.judgement.specs.Theorems.{WellFormed}
 use Rattle.judgement.proofs.FormLaws.{form-accepts, form-sound}
-use Rattle.writer.specs.Judgement.{header-length, header-and-table}
+use Rattle.writer.specs.Judgement.{header-and-table}
 use Rattle.normal.proofs.SameLaws.{SameNumbers, opening-formed, same-header, same-opening}
 
 module _ (s : List ℕ) where

@@ -5,11 +5,12 @@ use mathlib.Core.Bool.{Bool}
 use mathlib.Core.List.{List, []}
 use Rattle.line.specs.Count.{if_then_else_}
 use Rattle.refusal.specs.declared.cause.Cause.{Cause}
-use Rattle.refusal.specs.declared.cause.Cause.the-variants.{SheetForm, StationCount, Thresholds, StationNumber, Value, MarkBeyond, StationState, Length, ChainLeaves, ChainRepeats, RecordForm, UnmarkedSender, Duplicate, TooManyRecords, Width}
+use Rattle.refusal.specs.declared.cause.Cause.the-variants.{SheetForm, StationCount, Thresholds, StationNumber, Value, MarkBeyond, StationState, Length, ChainLeaves, ChainRepeats, RecordForm, UnmarkedSender, Duplicate, TooManyRecords, Width, Seed}
 use Rattle.refusal.specs.declared.cause.Verdict.{Verdict}
 use Rattle.refusal.specs.declared.cause.Verdict.the-variants.{Accepted, Refused}
 
--- the table's column "Number"; 14 and 15 are document 02's (request 1: "more than 4,096 records to write 14"; request 5: "w above 8 by 15")
+-- the table's column "Number"; from 14 on they are document 02's (request 1: "more than 4,096 records to write 14"; request 5: "w above 8 by 15"; request 7: "Seed zero is
+-- refused by 16")
 abbrev pub number : Cause → ℕ
 number SheetForm = 1
 number StationCount = 2
@@ -26,6 +27,7 @@ number UnmarkedSender = 12
 number Duplicate = 13
 number TooManyRecords = 14
 number Width = 15
+number Seed = 16
 
 -- a verdict as a number: the cause's, or 0 where nothing is refused
 abbrev pub code : Verdict → ℕ
@@ -41,7 +43,7 @@ pub record Judged (verdict answer : Verdict) : Type 0 where
 unfoldable pub refused-if : Bool → Cause → Verdict
 refused-if test c = if test then Refused c else Accepted
 
--- the first cause that holds. "The lowest number wins up to 8.": the causes are joined in the order of their numbers, but for 15, which comes before 2 (request 5)
+-- the first cause that holds. "The lowest number wins up to 8.": the causes are joined in the order of their numbers, but for 15, which comes before 2 (request 5), and 16, which comes before 8 (request 7)
 infixr 5 _or-else_
 abbrev pub _or-else_ : Verdict → Verdict → Verdict
 Accepted or-else next = next

@@ -18,6 +18,7 @@ pub enum Cause {
     Duplicate,
     TooManyRecords,
     Width,
+    Seed,
 }
 
 // What judging gives: nothing against it, or a cause.
@@ -47,6 +48,7 @@ impl Cause {
             Cause::Duplicate => 13,
             Cause::TooManyRecords => 14,
             Cause::Width => 15,
+            Cause::Seed => 16,
         }
     }
 }

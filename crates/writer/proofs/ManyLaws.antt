@@ -19,10 +19,10 @@ use Rattle.refusal.specs.declared.cause.Verdict.the-variants.{Accepted, Refused
 use Rattle.refusal.proofs.VerdictLaws.{refused-true}
 use Rattle.header.specs.Header.{outside, exceeded, station-count, thresholds, station-number, number-within, marks-within, width, line-verdict, number-verdict, exact-length}
 use Rattle.layout.specs.Layout.{header, tables-wanted, most-records}
-use Rattle.judgement.specs.Judgement.{ill-formed, sheet-form, verdict-to-6, verdict-to-8}
+use Rattle.judgement.specs.Judgement.{header-length, ill-formed, sheet-form, verdict-to-6, verdict-to-8}
 use Rattle.selection.specs.Places.{how-many}
 use Rattle.writer.specs.Sheet.{sheet-length}
-use Rattle.writer.specs.Judgement.{header-length, header-and-table, too-many, before-buffer, write-verdict}
+use Rattle.writer.specs.Judgement.{header-and-table, too-many, before-buffer, write-verdict}
 
 -- ---- verdicts that are not 14
 

@@ -21,7 +21,7 @@ use Rattle.header.specs.Header.{exact-length}
 use Rattle.header.proofs.HeaderLaws.{length-accepts}
 use Rattle.layout.specs.declared.Header.{Header}
 use Rattle.layout.specs.Layout.{header, most-records}
-use Rattle.judgement.specs.Judgement.{verdict-to-8}
+use Rattle.judgement.specs.Judgement.{header-length, verdict-to-8}
 use Rattle.sheet.specs.Loops.{SoundHeader}
 use Rattle.sheet.proofs.PromiseLaws.{opening-sound, opening-length}
 use Rattle.text.specs.Laid.{laid}
@@ -37,7 +37,7 @@ use Rattle.record.specs.Bytes.{header-bytes}
 use Rattle.record.specs.Put.{header-in}
 use Rattle.record.proofs.PutLaws.{header-there}
 use Rattle.writer.specs.Sheet.{records-bytes, sheet, sheet-length}
-use Rattle.writer.specs.Judgement.{header-length, header-and-table, too-many, before-buffer, write-verdict}
+use Rattle.writer.specs.Judgement.{header-and-table, too-many, before-buffer, write-verdict}
 use Rattle.writer.specs.Writing.{need-number, need-values, need-by, writing-number, writing-values, writing-by, Needs, Writes}
 use Rattle.writer.specs.Loops.{Unrefused, Goes-on}
 use Rattle.writer.proofs.RecordLaws.{records-length, records-none}

@@ -1,23 +1,18 @@
 -- What writing is refused by (document 02, Ticket 1): each cause a test of its own, in the order that the ticket gives.
 use Prim.Native.Nat.{ℕ}
-use mathlib.Core.Bool.{not}
 use mathlib.Core.List.{List}
-use lib.Dec.{ltb, eqb}
+use lib.Dec.{ltb}
 use lib.ListN.{length}
 use Rattle.refusal.specs.Cause.{refused-if, _or-else_}
-use Rattle.refusal.specs.declared.cause.Cause.the-variants.{SheetForm, TooManyRecords}
+use Rattle.refusal.specs.declared.cause.Cause.the-variants.{TooManyRecords}
 use Rattle.refusal.specs.declared.cause.Verdict.{Verdict}
 use Rattle.header.specs.Header.{exact-length}
 use Rattle.layout.specs.Layout.{header, most-records}
-use Rattle.judgement.specs.Judgement.{verdict-to-8}
+use Rattle.judgement.specs.Judgement.{header-length, verdict-to-8}
 use Rattle.selection.specs.Places.{how-many}
 use Rattle.writer.specs.Sheet.{sheet-length}
 
--- "A header not of 12 bytes is 1."
-unfoldable pub header-length : List ℕ → Verdict
-header-length h = refused-if (not (eqb (length h) 12)) SheetForm
-
--- "After the header's causes a table of wrong length is 8": twelve bytes are a sheet without records, and are judged as that, 15 included, with the length of
+-- "A header not of 12 bytes is 1. After the header's causes a table of wrong length is 8": twelve bytes are a sheet without records, and are judged as that, 15 included, with the length of
 -- the tables of all bits
 unfoldable pub header-and-table : List ℕ → ℕ → Verdict
 header-and-table h table-size = header-length h or-else verdict-to-8 h table-size

@@ -2,7 +2,8 @@
 use borrow.Author.Needs.{needs}
 use borrow.Author.Tests.{eq-eqb, ne-eqb}
 use Rattle.refusal.specs.Cause.{refused-if}
-use Rattle.writer.specs.Judgement.{header-length, header-and-table}
+use Rattle.judgement.specs.Judgement.{header-length}
+use Rattle.writer.specs.Judgement.{header-and-table}
 use Rattle.writer.proofs.header_and_table.Statement.{statement}
 use Rattle.writer.proofs.header_and_table.Tie as tie
 
