@@ -4,6 +4,7 @@ use mathlib.Core.Path.{_≡_}
 use mathlib.Core.List.{List}
 use Rattle.refusal.specs.Cause.{code, answer-word}
 use Rattle.refusal.specs.declared.cause.Verdict.{Verdict}
+use Rattle.generator.specs.Promise.{Generates}
 use Rattle.number.specs.Numbers.{NumberRun}
 use Rattle.exchange.specs.Promise.{Exchanged}
 use Rattle.recipe.specs.Promise.{RehearsedRecipe}
@@ -50,6 +51,12 @@ pub record WritesWord (h table sheet₀ sheet₁ : List ℕ) (r : ℕ) : Type 0 
   pub answer : Writing
   pub writes : Writes h table sheet₀ sheet₁ answer
   pub word-is : r ≡ answer-word (writing-number answer) (writing-word answer)
+
+-- `vembopu_generate`: what `generator::generate` promises
+pub record GeneratesNumber (h : List ℕ) (seed : ℕ) (table₀ table₁ : List ℕ) (r : ℕ) : Type 0 where
+  pub answer : Verdict
+  pub generates : Generates h seed table₀ table₁ answer
+  pub number-is : r ≡ code answer
 
 -- `vembopu_rehearse`: what `recipe::rehearse` promises
 pub record RehearsedNumber (N : NumberRun) (logs₀ logs₁ outcomes₀ outcomes₁ : List ℕ) (r : ℕ) : Type 0 where

@@ -5,7 +5,7 @@ ghost use mathlib.Core.Path.{_≡_};
 ghost use Rattle.sheet.specs.Reading.{reading-number};
 ghost use Rattle.recipe.specs.Promise.{number-run-of};
 ghost use Rattle.checker.specs.Promise.{logged};
-ghost use Rattle.exports.specs.Numbers.{ReadNumber, ReadBitNumber, NeedsWord, WritesWord, RehearsedNumber, ExchangedNumber, ChecksWord};
+ghost use Rattle.exports.specs.Numbers.{ReadNumber, ReadBitNumber, NeedsWord, WritesWord, GeneratesNumber, RehearsedNumber, ExchangedNumber, ChecksWord};
 use checker::Checked;
 use line::Line;
 use refusal::cause;
@@ -63,6 +63,15 @@ pub extern "C" fn vembopu_write(header: &[u8], table: &[u8], sheet: &mut [u8]) -
         Writing::Written(k) => cause::answer(0, k as u64),
         Writing::Refused(c) => cause::answer(c.number(), 0),
     }
+}
+
+// Generates the run tables of all bits from a header and a seed.
+#[no_mangle]
+pub extern "C" fn vembopu_generate(header: &[u8], seed: u32, table: &mut [u8]) -> u8
+    ensures { λ r. ⌜ GeneratesNumber (now (header .entry)) seed (now (table .entry)) (now (table .exit)) r ⌝ }
+{
+    let verdict = generator::generate(header, seed, table);
+    verdict.code()
 }
 
 // Rehearses a recipe number of w bits.
