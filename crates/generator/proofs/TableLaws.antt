@@ -5,7 +5,7 @@ use mathlib.Core.Bool.{Bool, true, false}
 use mathlib.Core.Logic.{_⊎_, inl, inr}
 use mathlib.Core.List.{List}
 use native.Mathlib.Omega.{arith}
-use native.Mathlib.Nat.{mul-assoc, mul-zero, mul-mod-left, mod-lt, add-comm, add-mul-div-right, mul-add-mod-self-right, add-mul-mod-self-right, mul-le-mul-right, suc-mul}
+use native.Mathlib.Nat.{mul-assoc, mul-zero, zero-mul, mul-mod-left, mod-lt, add-comm, add-mul-div-right, mul-add-mod-self-right, add-mul-mod-self-right, mul-le-mul-right, suc-mul}
 use lib.Dec.{ltb, eqb}
 use lib.ListN.{length, getD}
 use lib.Seq.{ext-getD}
@@ -25,7 +25,7 @@ use Rattle.selection.proofs.CountingLaws.{count-on}
 use Rattle.selection.proofs.PlaceLaws.{from-told}
 use Rattle.xorshift.specs.State.{state-after}
 use Rattle.xorshift.proofs.StateLaws.{runs-on}
-use Rattle.generator.specs.Tables.{ballot, has-step, steps-before, byte-at, noise, generated}
+use Rattle.generator.specs.Tables.{ballot, has-step, steps-before, byte-at, noise, generated, bit-state}
 use Rattle.generator.specs.Promise.{whole-rows, Fills}
 use Rattle.generator.specs.Theorems.{Byte}
 use Rattle.generator.specs.Loops.{Rows, Drawn}
@@ -140,10 +140,6 @@ module _ (n marks m : ℕ) (some : 1 ≤ n) where
       let e : suc (steps-before n marks (m * n * n + k)) ≡ steps-before n marks (m * n * n) + suc (steps-before n marks k) = omega (arith, steps-again k) in
       rw (step-again k, e, runs-on (steps-before n marks (m * n * n)) (suc (steps-before n marks k)) seed)
 
--- the state that all bits below b leave
-abbrev pub state-at-bit : Header → (seed b : ℕ) → ℕ
-state-at-bit h seed b = state-after (steps-before (h .n) (h .marks) (b * table-length (h .n) (h .t))) seed
-
 bit-start : (n t b : ℕ) → b * table-length n t ≡ b * rounds t * n * n
 bit-start n t b = rw (← mul-assoc b (rounds t * n) n, ← mul-assoc b (rounds t) n)
 
@@ -152,24 +148,30 @@ some-stations zero t k l = absurd (omega (arith, mul-zero (rounds t * 0)))
 some-stations (suc n) t k l = omega arith
 
 pub bits-run-on : (h : Header) (seed b : ℕ) → b < bits (h .w)
-    → part-of (table-length (h .n) (h .t)) (generated h seed) b ≡ noise (h .n) (h .marks) (state-at-bit h seed b) (table-length (h .n) (h .t))
+    → part-of (table-length (h .n) (h .t)) (generated h seed) b ≡ noise (h .n) (h .marks) (bit-state h seed b) (table-length (h .n) (h .t))
+unfolding bit-state
 bits-run-on h seed b l =
     let size = table-length (h .n) (h .t) in
     let whole = part-size size (generated h seed) b (bits (h .w)) l (generated-length h seed) in
-    ext-getD 0 _ _ (whole ∙ sym (noise-length (h .n) (h .marks) (state-at-bit h seed b) size))
+    ext-getD 0 _ _ (whole ∙ sym (noise-length (h .n) (h .marks) (bit-state h seed b) size))
     (λ k q.
     let s : k < size = rw whole at q in
     part-at size (generated h seed) b k s
     ∙ generated-at h seed (b * size + k) (omega (arith, s, row-within b size (bits (h .w)) l))
     ∙ rw (bit-start (h .n) (h .t) b) (byte-again (h .n) (h .marks) (b * rounds (h .t)) (some-stations (h .n) (h .t) k s) seed k)
-    ∙ sym (noise-at (h .n) (h .marks) (state-at-bit h seed b) size k s))
+    ∙ sym (noise-at (h .n) (h .marks) (bit-state h seed b) size k s))
 
 -- and goes on by one bit
 pub state-next-bit : (h : Header) (seed b : ℕ) → 1 ≤ h .n
-    → state-after (steps-before (h .n) (h .marks) (table-length (h .n) (h .t))) (state-at-bit h seed b) ≡ state-at-bit h seed (b + 1)
+    → state-after (steps-before (h .n) (h .marks) (table-length (h .n) (h .t))) (bit-state h seed b) ≡ bit-state h seed (b + 1)
+unfolding bit-state
 state-next-bit h seed b some =
     let size = table-length (h .n) (h .t) in
     let e : (b + 1) * size ≡ b * size + size = next-row b size in
     sym (ap (λ (k : ℕ). state-after (steps-before (h .n) (h .marks) k) seed) e
     ∙ ap (λ (k : ℕ). state-after k seed) (rw (bit-start (h .n) (h .t) b) (steps-again (h .n) (h .marks) (b * rounds (h .t)) some size))
     ∙ runs-on (steps-before (h .n) (h .marks) (b * size)) (steps-before (h .n) (h .marks) size) seed)
+
+pub state-first-bit : (h : Header) (seed : ℕ) → seed ≡ bit-state h seed 0
+unfolding bit-state steps-before count state-after
+state-first-bit h seed = rw (zero-mul (table-length (h .n) (h .t)))

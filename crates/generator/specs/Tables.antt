@@ -1,10 +1,11 @@
 -- The generated run tables (document 02, Ticket 7), by their places. A place of the bits' tables, one after another, tells its sender (`from-at` of crate selection),
 -- counted from 0.
-use Prim.Native.Nat.{ℕ, suc, _%_}
+use Prim.Native.Nat.{ℕ, suc, _*_, _%_}
 use mathlib.Core.Bool.{Bool}
 use mathlib.Core.List.{List}
 use lib.Dec.{eqb}
 use Rattle.line.specs.Count.{if_then_else_, count}
+use Rattle.line.specs.Line.{table-length}
 use Rattle.line.specs.Marks.{marked}
 use Rattle.line.specs.Width.{tables-length}
 use Rattle.line.specs.Ballot.{silence}
@@ -37,3 +38,7 @@ noise n marks seed size = tabulate size (byte-at n marks seed)
 -- the tables of all bits
 unfoldable pub generated : Header → ℕ → List ℕ
 generated h seed = noise (h .n) (h .marks) seed (tables-length (h .n) (h .t) (h .w))
+
+-- the state that the tables of the bits below b leave, from which bit b's table comes (`Bits-run-on`)
+unfoldable pub bit-state : Header → (seed b : ℕ) → ℕ
+bit-state h seed b = state-after (steps-before (h .n) (h .marks) (b * table-length (h .n) (h .t))) seed

@@ -10,7 +10,7 @@ use Rattle.line.specs.Width.{bits, tables-length, part-of}
 use Rattle.line.specs.Marks.{marked}
 use Rattle.layout.specs.declared.Header.{Header}
 use Rattle.xorshift.specs.State.{state-after}
-use Rattle.generator.specs.Tables.{ballot, steps-before, noise, generated}
+use Rattle.generator.specs.Tables.{ballot, steps-before, noise, generated, bit-state}
 
 -- a ballot of a state is 0, 1, 2 or 255
 abbrev pub Ballot-of-four : Type 0
@@ -37,4 +37,4 @@ abbrev pub Bits-run-on : Type 0
 Bits-run-on =
     (h : Header) (seed b : ℕ) → b < bits (h .w)
     → part-of (table-length (h .n) (h .t)) (generated h seed) b
-    ≡ noise (h .n) (h .marks) (state-after (steps-before (h .n) (h .marks) (b * table-length (h .n) (h .t))) seed) (table-length (h .n) (h .t))
+    ≡ noise (h .n) (h .marks) (bit-state h seed b) (table-length (h .n) (h .t))

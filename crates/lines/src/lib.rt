@@ -1,4 +1,4 @@
-// The lines of a listing, put at the start of a lent buffer as far as the buffer goes: those of a run, or the one of a refusal.
+// The lines of a listing, put into a lent buffer as far as the buffer goes: those of a run, from a place on, or the one of a refusal, at its start.
 ghost use mathlib.Core.Path.{_≡_};
 ghost use mathlib.Core.List.{[], _∷_};
 ghost use Prim.Native.Nat.{_<_};
@@ -10,15 +10,15 @@ use layout::Header;
 use line::Line;
 
 // The first line of a listing.
-fn first_line(out: &mut [u8], header: Header) -> usize
-    ensures { λ r. ⌜ Puts (now (out .entry)) (now (out .exit)) 0 (line-text (first-line header)) r ⌝ }
+fn first_line(out: &mut [u8], at: usize, header: Header) -> usize
+    ensures { λ r. ⌜ Puts (now (out .entry)) (now (out .exit)) at (line-text (first-line header)) r ⌝ }
 {
     let line = Line {
         n: header.n,
         t: header.t,
         upper: header.upper,
     };
-    let a = text::word(out, 0, b"agree");
+    let a = text::word(out, at, b"agree");
     let b = text::field(out, a, header.n as u64);
     let c = text::field(out, b, header.t as u64);
     let d = text::field(out, c, header.upper as u64);
@@ -77,11 +77,11 @@ fn station_lines(out: &mut [u8], at: usize, n: u8, outcomes: &[u8]) -> usize
     place
 }
 
-// All lines of a run.
-pub fn of_run(out: &mut [u8], header: Header, outcomes: &[u8]) -> usize
-    ensures { λ r. ⌜ Puts (now (out .entry)) (now (out .exit)) 0 (text (lines-by Accepted header (now (outcomes .entry)))) r ⌝ }
+// All lines of a run, from a place on.
+pub fn of_run(out: &mut [u8], at: usize, header: Header, outcomes: &[u8]) -> usize
+    ensures { λ r. ⌜ Puts (now (out .entry)) (now (out .exit)) at (text (lines-by Accepted header (now (outcomes .entry)))) r ⌝ }
 {
-    let a = first_line(out, header);
+    let a = first_line(out, at, header);
     station_lines(out, a, header.n, outcomes)
 }
 

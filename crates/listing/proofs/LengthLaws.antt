@@ -117,23 +117,15 @@ module _ (N : NumberRun) (most : N .n ≤ 32) (digits : ℕ) (some : 1 ≤ digit
           simp length-append (omega (arith, mul-suc (11 + digits) m, here, stations-short m (suc i) (omega arith)))
       go (inr q) ih = simp length-append (omega (arith, mul-suc (11 + digits) m, station-short i (omega arith), ih q))
 
--- ---- a listing
+-- ---- the lines of a run, whatever its tables are
 
-module _ (s : List ℕ) (lent : ℕ) (fate : Fate s) where
-  sound-if : lent-verdict s lent fate ≡ Accepted → SoundHeader (header s)
-  unfolding bit-verdict
-  sound-if e = bit-sound s 0 lent (both-accepted (bit-to-8 s 0 lent) (chain-verdict s fate) e .0)
-
-  its-number : NumberRun
-  its-number = run (header s) (table-of s fate)
-
+module _ (h : Header) (tables : List ℕ) (sound : SoundHeader h) where
   -- the stations' lines: no station is bad, and every count is 0; or one is, and a count is at most R
-  lines-short : SoundHeader (header s) → length (text (station-lines (number-outcomes its-number) 0 (header s .n))) ≤ 436
-  unfolding its-number
-  lines-short sound = go (eq-zero-or-pos (count (N .n) (marked (N .marks))))
+  lines-short : length (text (station-lines (number-outcomes (run h tables)) 0 (h .n))) ≤ 436
+  lines-short = go (eq-zero-or-pos (count (N .n) (marked (N .marks))))
     where
       N : NumberRun
-      N = run (header s) (table-of s fate)
+      N = run h tables
 
       few : rounds (N .t) < 100
       few = omega (arith, sound .most, sound .fits .order, sound .fits .room)
@@ -151,14 +143,23 @@ module _ (s : List ℕ) (lent : ℕ) (fate : Fate s) where
           = λ i m g. two-digits (garbled-at (number-outcomes N) i) (omega (arith, number-outcome-bytes N .good i (m, g) .3, few)) in
           omega (arith, sound .most, stations-shorter N (sound .most) 2 (omega arith) two (omega arith) (N .n) 0 k (omega arith) (omega arith) (omega arith) (not-false _ e))
 
+  pub run-short : length (text (lines-by Accepted h (number-outcomes (run h tables)))) ≤ longest-listing
+  run-short =
+      let first = line-text (first-line h) in
+      let rest = text (station-lines (number-outcomes (run h tables)) 0 (h .n)) in
+      omega (arith, length-append first rest, first-short h sound, lines-short)
+
+-- ---- a listing
+
+module _ (s : List ℕ) (lent : ℕ) (fate : Fate s) where
+  sound-if : lent-verdict s lent fate ≡ Accepted → SoundHeader (header s)
+  unfolding bit-verdict
+  sound-if e = bit-sound s 0 lent (both-accepted (bit-to-8 s 0 lent) (chain-verdict s fate) e .0)
+
   pub listing-short : length (listing s lent fate) ≤ longest-listing
-  unfolding listing its-number
+  unfolding listing
   listing-short = go (lent-verdict s lent fate) refl
     where
-      go : (v : Verdict) → lent-verdict s lent fate ≡ v → length (text (lines-by v (header s) (number-outcomes its-number))) ≤ longest-listing
-      go Accepted e =
-          let h = header s in
-          let first = line-text (first-line h) in
-          let rest = text (station-lines (number-outcomes its-number) 0 (h .n)) in
-          omega (arith, length-append first rest, first-short h (sound-if e), lines-short (sound-if e))
+      go : (v : Verdict) → lent-verdict s lent fate ≡ v → length (text (lines-by v (header s) (number-outcomes (run (header s) (table-of s fate))))) ≤ longest-listing
+      go Accepted e = run-short (header s) (table-of s fate) (sound-if e)
       go (Refused c) e = omega (arith, refusal-short (number c))

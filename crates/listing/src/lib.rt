@@ -81,7 +81,7 @@ fn list_outcomes(
     ensures { λ r. ⌜ ListsRun (now (sheet .entry)) (now (table .exit)) (now (log .exit)) (now (text .entry)) (now (text .exit)) r ⌝ }
 {
     run_bits(header, sheet, table, log, outcomes);
-    lines::of_run(text, header, outcomes)
+    lines::of_run(text, 0, header, outcomes)
 }
 
 // Rehearses and lists an accepted sheet, whose first bit was read.

@@ -1,0 +1,101 @@
+-- Laws of a generated run that is rehearsed one bit after another in one table and one log. Assumes nothing.
+use Prim.Native.Nat.{ℕ, suc, _+_, _-_, _*_, _≤_, _<_}
+use mathlib.Core.Path.{_≡_, refl, sym, ap, _∙_}
+use mathlib.Core.Bool.{true}
+use mathlib.Core.List.{List}
+use native.Mathlib.Omega.{arith}
+use native.Mathlib.Numerals.{add-one}
+use native.Mathlib.Nat.{mul-mod-left}
+use lib.ListN.{length}
+use Rattle.line.specs.Line.{rounds, table-length, outcomes-length}
+use Rattle.line.specs.Width.{bits, bit-of, tables-length, part-of}
+use Rattle.line.proofs.WidthLaws.{bits-some, part-size}
+use Rattle.refusal.specs.declared.cause.Verdict.{Verdict}
+use Rattle.broadcast.specs.Bytes.{log}
+use Rattle.broadcast.proofs.BytesLaws.{log-size}
+use Rattle.number.specs.Numbers.{NumberRun, bit-run, gathered, bit-outcomes, number-outcomes}
+use Rattle.number.proofs.BufferLaws.{gathered-length}
+use Rattle.rehearsal.specs.Promise.{run-of}
+use Rattle.recipe.specs.Promise.{RehearsedBit}
+use Rattle.recipe.proofs.RunLaws.{bit-log, bit-gathered}
+use Rattle.layout.specs.declared.Header.{Header}
+use Rattle.sheet.specs.Loops.{SoundHeader}
+use Rattle.lines.specs.Lines.{run}
+use Rattle.generator.specs.Tables.{steps-before, noise, generated, bit-state}
+use Rattle.generator.specs.Promise.{whole-rows, Fills}
+use Rattle.generator.proofs.TableLaws.{rows-whole, generated-length, bits-run-on, state-next-bit, state-first-bit}
+use Rattle.xorshift.specs.State.{state-after}
+use Rattle.seeded.specs.Promise.{seed-run, last-table, last-log}
+use Rattle.seeded.specs.Loops.{BitsRun, Ran}
+
+-- one bit's table is whole rows
+table-rows : (n t : ℕ) → 1 ≤ n → whole-rows n (table-length n t) ≡ true
+table-rows n t some = rows-whole n (table-length n t) some (mul-mod-left (rounds t * n) n)
+
+module _ (h : Header) (seed : ℕ) (table bytes results : List ℕ) where
+  -- before the first
+  pub bits-begin : SoundHeader h → length table ≡ table-length (h .n) (h .t) → length bytes ≡ table-length (h .n) (h .t)
+      → length results ≡ outcomes-length (h .n) → BitsRun h seed 0 seed table bytes results
+  bits-begin sound a b c = record {
+    sound = sound;
+    state-is = state-first-bit h seed;
+    table-whole = a;
+    log-whole = b;
+    outcomes-whole = c;
+    table-is = λ l. absurd (omega arith);
+    log-is = λ l. absurd (omega arith);
+    outcomes-are = λ l. absurd (omega arith);
+  }
+
+  -- a bit more
+  module _ (b state : ℕ) (P : BitsRun h seed b state table bytes results) (more : b < bits (h .w))
+      (table₁ bytes₁ results₁ : List ℕ) (left : ℕ) (F : Fills (h .n) (h .marks) state table table₁ left) where
+    whole : whole-rows (h .n) (length table) ≡ true
+    whole = rw (P .table-whole) (table-rows (h .n) (h .t) (P .sound .some))
+
+    -- its table
+    its-table : table₁ ≡ part-of (table-length (h .n) (h .t)) (generated h seed) b
+    its-table = F .table-is ∙ rw (whole, P .table-whole, P .state-is) (sym (bits-run-on h seed b more))
+
+    -- the state that it leaves
+    its-state : left ≡ bit-state h seed (b + 1)
+    its-state = F .state-is ∙ rw (whole, P .table-whole, P .state-is) (state-next-bit h seed b (P .sound .some))
+
+    -- its run
+    module _ {answer : Verdict} (R : RehearsedBit b (run-of (h .n) (h .t) (h .upper) (h .sender) (bit-of (h .value) b) (h .marks) table₁) bytes bytes₁ results results₁ answer) where
+      its-run : RehearsedBit b (bit-run (run h (generated h seed)) b) bytes bytes₁ results results₁ answer
+      unfolding bit-run
+      its-run = rw its-table at R
+
+      its-log : bytes₁ ≡ log (bit-run (seed-run h seed) b)
+      unfolding seed-run
+      its-log = bit-log (run h (generated h seed)) (P .sound) (generated-length h seed) b more bytes results (P .log-whole) (P .outcomes-are) (P .outcomes-whole) bytes₁ results₁ answer its-run
+
+      its-outcomes : results₁ ≡ gathered (h .n) (h .marks) (suc b) (bit-outcomes (seed-run h seed))
+      unfolding seed-run
+      its-outcomes = bit-gathered (run h (generated h seed)) (P .sound) (generated-length h seed) b more bytes results (P .log-whole) (P .outcomes-are) (P .outcomes-whole) bytes₁ results₁ answer its-run
+
+      log-long : length bytes₁ ≡ table-length (h .n) (h .t)
+      unfolding seed-run bit-run
+      log-long = ap length its-log ∙ log-size (bit-run (run h (generated h seed)) b)
+
+      pub bit-more : BitsRun h seed (b + 1) left table₁ bytes₁ results₁
+      bit-more =
+          let back : b + 1 - 1 ≡ b = omega arith in
+          record {
+            sound = P .sound;
+            state-is = its-state;
+            table-whole = ap length its-table ∙ part-size (table-length (h .n) (h .t)) (generated h seed) b (bits (h .w)) more (generated-length h seed);
+            log-whole = log-long;
+            outcomes-whole = ap length its-outcomes ∙ gathered-length (h .n) (h .marks) (suc b) _;
+            table-is = λ _. rw back its-table;
+            log-is = λ _. rw back its-log;
+            outcomes-are = λ _. rw (add-one b) its-outcomes;
+          }
+
+  -- after the last
+  pub bits-end : (state : ℕ) → BitsRun h seed (bits (h .w)) state table bytes results → Ran h seed table bytes results
+  unfolding last-table last-log number-outcomes seed-run
+  bits-end state P =
+      let some = bits-some (h .w) in
+      record { table-is = P .table-is some; log-is = P .log-is some; outcomes-are = P .outcomes-are some }

@@ -1,0 +1,37 @@
+-- What the program seeds prints (document 02, Ticket 7): "A program reads one sheet, keeps its header and prints the listings for seeds 1 to 100."
+use Prim.Native.Nat.{ℕ, zero, suc, _≤_}
+use mathlib.Core.Path.{_≡_}
+use mathlib.Core.List.{List, [], _++_}
+use lib.ListN.{length, take}
+use Rattle.refusal.specs.declared.cause.Verdict.the-variants.{Accepted}
+use Rattle.number.specs.Numbers.{number-outcomes}
+use Rattle.layout.specs.declared.Header.{Header}
+use Rattle.layout.specs.Layout.{header}
+use Rattle.layout.specs.Chain.{Fate}
+use Rattle.lines.specs.Lines.{Field, lines-by, verdict}
+use Rattle.lines.specs.Text.{text}
+use Rattle.normal.specs.Output.{output-by}
+use Rattle.seeded.specs.Promise.{seed-run}
+
+-- "to 100"
+abbrev pub last-seed : ℕ
+last-seed = 100
+
+-- the listing of one seed's run: that of the whole number
+unfoldable pub seed-lines : Header → ℕ → List (List Field)
+seed-lines h seed = lines-by Accepted h (number-outcomes (seed-run h seed))
+
+-- the listings of the seeds 1 to m, one after another
+unfoldable pub listings : Header → ℕ → List ℕ
+listings h zero = []
+listings h (suc m) = listings h m ++ text (seed-lines h (suc m))
+
+-- "A sheet that the reader refuses prints its one refusal line and no more."
+unfoldable pub output : (s : List ℕ) → Fate s → List ℕ
+output s fate = output-by (verdict s fate) (listings (header s) last-seed)
+
+-- so many bytes at the buffer's start are the whole output
+pub record Printed (s out : List ℕ) (answer : ℕ) : Type 0 where
+  pub fate : Fate s
+  pub inside : answer ≤ length out
+  pub whole : take answer out ≡ output s fate
