@@ -9,18 +9,19 @@
 #include "exports.h"
 #include "inputs.h"
 
-enum { READ, READ_BIT, SHEET_LEN, WRITE, REHEARSE, CHECK, EXCHANGE };
-enum { BUFFERS = 3, UNWRITTEN = 170 };
+enum { READ, READ_BIT, SHEET_LEN, WRITE, GENERATE, REHEARSE, CHECK, EXCHANGE };
+enum { BUFFERS = 3 };
 
-static const char *const call_name[] = {"vembopu_read",     "vembopu_read_bit", "vembopu_sheet_len", "vembopu_write",
-                                        "vembopu_rehearse", "vembopu_check",    "vembopu_exchange"};
-static const int buffers[] = {2, 2, 2, 3, 3, 2, 3};
+static const char *const call_name[] = {"vembopu_read",  "vembopu_read_bit", "vembopu_sheet_len",
+                                        "vembopu_write", "vembopu_generate", "vembopu_rehearse",
+                                        "vembopu_check", "vembopu_exchange"};
+static const int buffers[] = {2, 2, 2, 3, 2, 3, 2, 3};
 
 /* One call. The content of a buffer that the call writes is NULL. */
 struct trial {
     int call;
     uint8_t n, t, T, sender, value, w, bit;
-    uint32_t marks;
+    uint32_t marks, seed;
     const uint8_t *content[BUFFERS];
     size_t len[BUFFERS];
     int number;
@@ -41,6 +42,8 @@ static int run(const struct trial *x, uint8_t *const at[])
         return (int)vembopu_refusal(vembopu_sheet_len(at[0], x->len[0], at[1], x->len[1]));
     case WRITE:
         return (int)vembopu_refusal(vembopu_write(at[0], x->len[0], at[1], x->len[1], at[2], x->len[2]));
+    case GENERATE:
+        return vembopu_generate(at[0], x->len[0], x->seed, at[1], x->len[1]);
     case REHEARSE:
         return vembopu_rehearse(x->n, x->t, x->T, x->sender, x->value, x->w, x->marks, at[0], x->len[0], at[1],
                                 x->len[1], at[2], x->len[2]);
@@ -118,7 +121,7 @@ static void with_null(const struct trial *accepted, int which, int number)
 }
 
 /* Each buffer, and all: 1 for a sheet to be read and a header, otherwise 8; a
-   lower number comes first. */
+   lower number comes first, and of a seed 16. */
 static void nulls(const struct trial *accepted)
 {
     struct trial low = *accepted;
@@ -126,6 +129,9 @@ static void nulls(const struct trial *accepted)
     for (int which = 1; which < 1 << buffers[accepted->call]; which++)
         with_null(accepted, which, by_1 && which & 1 ? 1 : 8);
     low.n = 0;
+    low.seed = 0;
+    if (accepted->call == GENERATE)
+        with_null(&low, 2, 16);
     if (!by_1)
         with_null(&low, 7, 2);
     low.w = 9;
@@ -215,6 +221,18 @@ static void null_and_too_many(void)
     with_null(&x, 4, 14);
 }
 
+static void generations(void)
+{
+    for (size_t i = 0; i < COUNT(generate_inputs); i++) {
+        const struct generate_input *in = &generate_inputs[i];
+        make_sheet(sheet, in->w, 1);
+        sheet[in->at] = in->byte;
+        struct trial x = {.call = GENERATE, .seed = in->seed, .content = {sheet},
+                          .len = {in->header_len, in->table_len}, .number = in->number};
+        try_one(&x);
+    }
+}
+
 static void rehearsals(void)
 {
     for (size_t i = 0; i < COUNT(rehearse_inputs); i++) {
@@ -261,6 +279,7 @@ int main(void)
     sheets();
     writings();
     null_and_too_many();
+    generations();
     rehearsals();
     checks();
     exchanges();

@@ -130,4 +130,28 @@ static inline const uint8_t *guarded_bytes(struct guarded g, const uint8_t *byte
     return at;
 }
 
+/* What fills the pages of a buffer before a call writes it. */
+enum { UNWRITTEN = 170 };
+
+/* The place of a buffer at the end of its pages, unwritten; NULL if it has no
+   bytes. The pages can be written only if asked. */
+static inline uint8_t *lay_unwritten(struct guarded g, size_t len, int writable)
+{
+    mprotect(g.page, g.size, PROT_READ | PROT_WRITE);
+    memset(g.page, UNWRITTEN, g.size);
+    if (!writable)
+        mprotect(g.page, g.size, PROT_READ);
+    return len == 0 ? NULL : g.page + g.size - len;
+}
+
+/* 1 if that buffer has these bytes and nothing is written before it. */
+static inline int written_as(struct guarded g, const uint8_t *bytes, size_t len)
+{
+    const uint8_t *end = g.page + g.size - len;
+    int same = memcmp(end, bytes, len) == 0;
+    for (const uint8_t *p = g.page; p < end; p++)
+        same = same && *p == UNWRITTEN;
+    return same;
+}
+
 #endif

@@ -12,7 +12,7 @@
 #include "inputs.h"
 #include "model.h"
 
-enum { BLOCK = 1000, BLOCKS = 12, NUMBERS = 16, SMALL = 5 };
+enum { BLOCK = 1000, BLOCKS = 12, NUMBERS = 17, SMALL = 5 };
 
 /* ---- One call ---- */
 

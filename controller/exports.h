@@ -1,8 +1,8 @@
 /*
  * The calls on a whole line, in libexports.a: the reader and the writer of run
- * sheets, the rehearsal of a number's broadcasts, the checker of logs, the
- * graded exchange had alone. A controller needs none of them; the numbers of
- * refusals are in vembopu.h.
+ * sheets, the generator of noisy runs, the rehearsal of a number's broadcasts,
+ * the checker of logs, the graded exchange had alone. A controller needs none of
+ * them; the numbers of refusals are in vembopu.h.
  *
  * R = 3t + 6 is the number of rounds, vembopu_rounds(t). A table has the byte
  * for round r, from i, to j at ((r-1)*n + (i-1))*n + (j-1). Any byte may stand
@@ -79,6 +79,7 @@ enum {
     VEMBOPU_STACK_READ_BIT = 57856,
     VEMBOPU_STACK_SHEET_LEN = 256,
     VEMBOPU_STACK_WRITE = 512,
+    VEMBOPU_STACK_GENERATE = 192,
     VEMBOPU_STACK_REHEARSE = 1792,
     VEMBOPU_STACK_CHECK = 1408,
     VEMBOPU_STACK_EXCHANGE = 3712
@@ -189,6 +190,33 @@ static inline uint32_t vembopu_records(uint64_t answer)
         return 0;
     return (uint32_t)(answer & 0xffffffffu);
 }
+
+/*
+ * Generates the run tables of a noisy run: what the marked stations send is made
+ * from a seed, so that two lines with one header have the same bad day.
+ *
+ * header      as for vembopu_sheet_len; the sender and the value are judged, and
+ *             have no effect. Only read.
+ * header_len  12
+ * seed        any number but 0
+ * table       the bits' run tables; written: what is generated for every marked
+ *             sender, 255 for every other
+ * table_len   W*R*n*n, with the n, the t and the w of the header
+ *
+ * A state of 32 bits starts as the seed. A step exclusive-ors it with itself
+ * shifted left by 13, then right by 17, then left by 5; bits beyond 32 are
+ * dropped. For each round, marked sender and receiver in the table's order it
+ * steps once, and the new state mod 4 is the byte, 255 where that is 3. From one
+ * bit's table to the next the state runs on.
+ *
+ * vembopu_rehearse takes the tables as they are. vembopu_write makes their sheet,
+ * which may need more than 4,096 records.
+ *
+ * Refused: by 1; then by 15; then by the lowest of 2, 3, 4, 5, 6; then by 16, if
+ * seed is 0; then by 8.
+ */
+uint8_t vembopu_generate(const uint8_t *header, size_t header_len, uint32_t seed,
+                         uint8_t *table, size_t table_len);
 
 /*
  * Rehearses the broadcasts of a number, one for each bit: bit b of the number is

@@ -16,7 +16,7 @@
 #error "the version's numbers are for #if too"
 #endif
 
-enum { NONE = 255, MOST_T = 10, MOST_ROUNDS = 36, NUMBERS = 16 };
+enum { NONE = 255, MOST_T = 10, MOST_ROUNDS = 36, NUMBERS = 17 };
 
 /* What the helpers make of an answer, but for the state. */
 struct parts {

@@ -169,6 +169,50 @@ static inline int refused_by_sheet(const struct write_input *in)
     return in->number == 8 && in->table_len == (size_t)vembopu_bits(in->w) * TABLE;
 }
 
+/* The header of such a sheet with the byte `at` changed, and a seed. */
+struct generate_input {
+    uint8_t w;
+    size_t at;
+    uint8_t byte;
+    size_t header_len;
+    uint32_t seed;
+    size_t table_len;
+    int number;
+};
+
+static const struct generate_input generate_inputs[] = {
+    {0, 0, 32, HEADER, 1, TABLE, 0},
+    {1, 8, 0, HEADER, 100, TABLE, 0},             /* stations 1 to 8 unmarked */
+    {0, 7, 255, HEADER, 0xffffffffu, TABLE, 0},   /* first index above 4,096 */
+    {3, 4, 7, HEADER, 2, 3 * TABLE, 0},
+    {8, 4, 255, HEADER, 0x80000000u, TABLES, 0},
+    {0, 0, 32, HEADER - 1, 1, TABLE, 1},
+    {0, 0, 32, HEADER + RECORD, 1, TABLE, 1},     /* a header and a record */
+    {9, 0, 32, HEADER, 1, TABLES, 15},
+    {0, 0, 33, HEADER, 1, TABLE, 2},              /* n */
+    {0, 2, 11, HEADER, 1, TABLE, 3},              /* T */
+    {0, 3, 33, HEADER, 1, TABLE, 4},              /* sender */
+    {0, 4, 2, HEADER, 1, TABLE, 5},               /* value */
+    {3, 4, 8, HEADER, 1, 3 * TABLE, 5},           /* 2 to the power w */
+    {0, 0, 31, HEADER, 1, TABLE, 6},              /* n below a marked station */
+    {0, 0, 32, HEADER, 0, TABLE, 16},
+    {8, 0, 32, HEADER, 0, TABLES, 16},
+    {0, 0, 32, HEADER, 1, TABLE - 1, 8},
+    {2, 0, 32, HEADER, 1, TABLE, 8},              /* one bit's table */
+    {7, 0, 32, HEADER, 1, TABLES, 8},
+    {8, 0, 32, HEADER, 1, TABLES - 1, 8},
+    /* with seed 0 and another length: the header's length, w and n, each byte, and
+       none */
+    {9, 0, 33, HEADER - 1, 0, 1, 1},
+    {9, 0, 33, HEADER, 0, 1, 15},
+    {0, 0, 33, HEADER, 0, 1, 2},
+    {0, 2, 11, HEADER, 0, 1, 3},
+    {0, 3, 33, HEADER, 0, 1, 4},
+    {0, 4, 2, HEADER, 0, 1, 5},
+    {0, 0, 31, HEADER, 0, 1, 6},
+    {0, 0, 32, HEADER, 0, 1, 16},
+};
+
 struct rehearse_input {
     uint8_t n, t, T, sender, value, w;
     uint32_t marks;

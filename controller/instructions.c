@@ -36,6 +36,28 @@ static uint32_t rehearse_bits(uint32_t marks)
     return refused;
 }
 
+/* The header of w bits with these marks. */
+static void make_header(uint8_t w, uint32_t marks)
+{
+    make_sheet(sheet, w, 0);
+    memcpy(header, sheet, HEADER);
+    for (int i = 0; i < 4; i++)
+        header[8 + i] = (uint8_t)(marks >> 8 * i & 255);
+}
+
+static uint32_t generate(uint32_t marks)
+{
+    make_header(1, marks);
+    return vembopu_generate(header, HEADER, 1, table, TABLE);
+}
+
+/* Of eight bits. */
+static uint32_t generate_number(uint32_t marks)
+{
+    make_header(8, marks);
+    return vembopu_generate(header, HEADER, 1, table, TABLES);
+}
+
 /* The log of a rehearsal: the marked stations are those that broke the rules. */
 static uint32_t check_log(uint32_t marks)
 {
@@ -75,11 +97,7 @@ enum { NONE_MARKED = 0xffff };
 static size_t make_writing(uint32_t k)
 {
     uint32_t left = k;
-    make_sheet(sheet, 1, 0);
-    memcpy(header, sheet, HEADER);
-    memset(header + 8, 0, 4);
-    header[8] = k == NONE_MARKED ? 0 : 0xff;
-    header[9] = k == NONE_MARKED ? 0 : 0x03;
+    make_header(1, k == NONE_MARKED ? 0 : 0x3ffu);
     for (uint32_t at = 0; at < TABLE; at++) {
         int of_ten = at / 32 % 32 < 10;
         table[at] = of_ten && left == 0 ? 255 : 1;
@@ -167,6 +185,12 @@ static const struct {
     {"vembopu_rehearse", "10 marked, eight times one bit", TABLES, "ballot", rehearse_bits, 0x3ffu},
     {"vembopu_rehearse", "32 marked, eight bits", TABLES, "ballot", rehearse_number, 0xffffffffu},
     {"vembopu_rehearse", "32 marked, eight times one bit", TABLES, "ballot", rehearse_bits, 0xffffffffu},
+    {"vembopu_generate", "none marked", TABLE, "byte", generate, 0},
+    {"vembopu_generate", "10 marked", TABLE, "byte", generate, 0x3ffu},
+    {"vembopu_generate", "32 marked", TABLE, "byte", generate, 0xffffffffu},
+    {"vembopu_generate", "none marked, eight bits", TABLES, "byte", generate_number, 0},
+    {"vembopu_generate", "10 marked, eight bits", TABLES, "byte", generate_number, 0x3ffu},
+    {"vembopu_generate", "32 marked, eight bits", TABLES, "byte", generate_number, 0xffffffffu},
     {"vembopu_check", "none marked", TABLE, "ballot", check_log, 0},
     {"vembopu_check", "10 marked", TABLE, "ballot", check_log, 0x3ffu},
     {"vembopu_check", "32 marked", TABLE, "ballot", check_log, 0xffffffffu},

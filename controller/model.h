@@ -1,8 +1,9 @@
 /*
- * The station's calls, the writer's and the checker's written once more, in C
- * from documents 01 and 02 (Tickets 1 to 6), for the tests: the judgement, the
- * steps of a station that is accepted, the sheet that is written, and the set of
- * stations that broke the rules. Shares no code with the library.
+ * The station's calls, the writer's, the generator and the checker written once
+ * more, in C from documents 01 and 02 (Tickets 1 to 7), for the tests: the
+ * judgement, the steps of a station that is accepted, the sheet that is written,
+ * the tables that are generated, and the set of stations that broke the rules.
+ * Shares no code with the library.
  */
 #ifndef MODEL_H
 #define MODEL_H
@@ -356,6 +357,66 @@ static inline uint64_t model_write(const struct writing *w, uint8_t *sheet)
     sheet[7] = 0;
     put_records(w, sheet + 12);
     return answer(0, records_of(w));
+}
+
+/* ---- The generator of noisy runs: document 02, Ticket 7 ---- */
+
+struct generating {
+    const uint8_t *header;
+    size_t header_len;
+    uint32_t seed;
+    size_t table_len;
+};
+
+/* "exclusive-or with itself shifted left 13, then right 17, then left 5, bits
+   beyond 32 dropped" */
+static inline uint32_t next_state(uint32_t state)
+{
+    state ^= state << 13;
+    state ^= state >> 17;
+    state ^= state << 5;
+    return state;
+}
+
+/* "the new state mod 4, with 255 for 3" */
+static inline uint8_t byte_of(uint32_t state)
+{
+    return state % 4 == 3 ? 255 : (uint8_t)(state % 4);
+}
+
+/* "Seed zero is refused by 16, after the header's causes and before 8." */
+static inline int judge_generate(const struct generating *g)
+{
+    int number = judge_header(g->header, g->header_len);
+    if (number != 0)
+        return number;
+    if (g->seed == 0)
+        return 16;
+    return g->table_len == tables_bytes(g->header) ? 0 : 8;
+}
+
+/* "For each round, marked sender and receiver in table order it steps once", and
+   "Other bytes are 255": one bit's table, and the state after it. */
+static inline uint32_t generate_bit(const uint8_t *header, uint32_t state, uint8_t *table)
+{
+    for (int round = 1; round <= rounds(header[1]); round++)
+        for (int from = 1; from <= header[0]; from++)
+            for (int to = 1; to <= header[0]; to++) {
+                int marked = is_marked(header, from);
+                state = marked ? next_state(state) : state;
+                *table++ = marked ? byte_of(state) : 255;
+            }
+    return state;
+}
+
+/* "With several bits the state runs on from one bit's table to the next." */
+static inline int model_generate(const struct generating *g, uint8_t *table)
+{
+    int number = judge_generate(g);
+    uint32_t state = g->seed;
+    for (int b = 0; number == 0 && b < bits_of(g->header[5]); b++)
+        state = generate_bit(g->header, state, table + (size_t)b * table_bytes(g->header));
+    return number;
 }
 
 /* ---- The checker of logs: document 02, Ticket 3 ---- */

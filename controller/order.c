@@ -11,14 +11,14 @@
 
 #include <string.h>
 
-enum { NUMBERS = 5, BYTES = 10, BUFFERS = 3, SPACE = 256, UNWRITTEN = 170 };
+enum { NUMBERS = 5, BYTES = 10, BUFFERS = 3, SPACE = 256 };
 
 /* A call's arguments of one byte in the order of its header; after these the
    state's round, value, z, grade and garbled, or the whole lent station alone;
-   marks; buffers. */
+   marks, or a seed; buffers. */
 struct arguments {
     uint8_t byte[BYTES];
-    uint32_t marks;
+    uint32_t marks, seed;
     uint8_t *at[BUFFERS];
     size_t len[BUFFERS];
 };
@@ -95,6 +95,11 @@ static uint64_t run_write(struct arguments *a)
     return vembopu_write(BUFFER(a, 0), BUFFER(a, 1), BUFFER(a, 2));
 }
 
+static uint64_t run_generate(struct arguments *a)
+{
+    return vembopu_generate(BUFFER(a, 0), a->seed, BUFFER(a, 1));
+}
+
 static uint64_t run_rehearse(struct arguments *a)
 {
     return vembopu_rehearse(FIVE_NUMBERS(a), a->byte[5], a->marks, BUFFER(a, 0), BUFFER(a, 1), BUFFER(a, 2));
@@ -127,19 +132,24 @@ static const struct call {
     {"vembopu_read_bit", run_read_bit, 1, 0, 2, {0, 0}, {0, 0}},
     {"vembopu_sheet_len", run_sheet_len, 0, 0, 2, {0, 0}, {0, 0}},
     {"vembopu_write", run_write, 0, 0, 3, {0, 0}, {0, 0}},
+    {"vembopu_generate", run_generate, 0, 0, 2, {0, 0}, {0, 0}},
     {"vembopu_rehearse", run_rehearse, 6, 0, 3, {0, 0}, {0, 1}},
     {"vembopu_check", run_check, 4, 0, 2, {0, 0}, {0, 0}},
     {"vembopu_exchange", run_exchange, 3, 0, 3, {0, 0}, {0, 0}},
 };
 
-enum { OPEN, BALLOT, ADVANCE, RESULT, ADVANCE_LENT, READ, READ_BIT, SHEET_LEN, WRITE, REHEARSE, CHECK, EXCHANGE, CALLS };
+enum {
+    OPEN, BALLOT, ADVANCE, RESULT, ADVANCE_LENT,
+    READ, READ_BIT, SHEET_LEN, WRITE, GENERATE, REHEARSE, CHECK, EXCHANGE,
+    CALLS
+};
 
 /* ---- The examples ---- */
 
 struct example {
     int call;
     uint8_t byte[BYTES];
-    uint32_t marks;
+    uint32_t marks, seed;
     const uint8_t *before[BUFFERS];
     size_t len[BUFFERS];
     uint64_t answer;
@@ -211,6 +221,17 @@ static const uint8_t two_written[] = {
     2, 4, 1, 0, 3, 0, 1, 0,
     3, 4, 2, 7, 0, 0, 1, 0,
 };
+
+/* What station 4 sends to all in each round, generated: from seed 1 for both bits,
+   the second's where the first's end, whose states are 270369, 67634689,
+   2647435461, 307599695 and so on; from a seed of four bytes for one bit. */
+#define LONG_SEED 0x89abcdefu
+static const uint8_t two_generated[] = {FROM_4(1, 1, 1, 255), FROM_4(1, 0, 2, 2), FROM_4(1, 0, 255, 255),
+                                        FROM_4(2, 2, 1, 1), FROM_4(0, 0, 1, 1), FROM_4(255, 1, 255, 255),
+                                        FROM_4(2, 1, 1, 0), FROM_4(255, 2, 255, 0), FROM_4(1, 0, 0, 0),
+                                        FROM_4(2, 2, 2, 255), FROM_4(1, 2, 255, 255), FROM_4(255, 1, 1, 0)};
+static const uint8_t long_generated[] = {FROM_4(0, 0, 0, 0), FROM_4(255, 2, 1, 1), FROM_4(255, 255, 2, 1),
+                                         FROM_4(255, 1, 0, 1), FROM_4(2, 2, 255, 1), FROM_4(2, 255, 2, 1)};
 
 /* Its run with another table: station 3, good, sends the number 1, a one in bit 0
    and a zero in bit 1. Station 4 is silent in bit 0, which has grade 1 and a
@@ -293,6 +314,11 @@ static const struct example examples[] = {
     /* three records */
     {.call = WRITE, .before = {b_header, b_table}, .len = {sizeof b_header, sizeof b_table, sizeof b_sheet},
      .answer = 3, .after = {NULL, NULL, b_sheet}},
+    {.call = GENERATE, .seed = 1, .before = {two_header}, .len = {sizeof two_header, sizeof two_generated},
+     .after = {NULL, two_generated}},
+    {.call = GENERATE, .seed = LONG_SEED, .before = {b_header}, .len = {sizeof b_header, sizeof long_generated},
+     .after = {NULL, long_generated}},
+    {.call = GENERATE, .seed = 0, .before = {b_header}, .len = {sizeof b_header, sizeof long_generated}, .answer = 16},
     {.call = REHEARSE, .byte = {4, 0, 1, 4, 0}, .marks = 8, .before = {b_table},
      .len = {sizeof b_table, sizeof b_log, sizeof b_outcomes}, .after = {NULL, b_log, b_outcomes}},
     {.call = REHEARSE, .byte = {4, 0, 1, 3, 1}, .marks = 0, .before = {good_table},
@@ -372,6 +398,7 @@ static struct arguments arguments_of(const struct example *e)
     struct arguments a;
     memcpy(a.byte, e->byte, BYTES);
     a.marks = e->marks;
+    a.seed = e->seed;
     for (int k = 0; k < BUFFERS; k++) {
         lay(space[k], e->before[k], e->len[k]);
         a.at[k] = space[k];
@@ -506,8 +533,8 @@ static void numbers(void)
                                 VEMBOPU_BAD_MARKS,       VEMBOPU_BAD_STATE,     VEMBOPU_BAD_LENGTH,
                                 VEMBOPU_CHAIN_LEAVES,    VEMBOPU_CHAIN_REPEATS, VEMBOPU_BAD_RECORD,
                                 VEMBOPU_UNMARKED_SENDER, VEMBOPU_DUPLICATE,     VEMBOPU_TOO_MANY_RECORDS,
-                                VEMBOPU_BAD_WIDTH};
-    for (int k = 0; k < 16; k++)
+                                VEMBOPU_BAD_WIDTH,       VEMBOPU_BAD_SEED};
+    for (int k = 0; k < 17; k++)
         check(named[k] == k, "the name of refusal %d is %d", k, named[k]);
 }
 

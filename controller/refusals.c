@@ -14,7 +14,7 @@
 
 enum { OPEN = 1, BALLOT = 2, ADVANCE = 4, LENT = 8, RESULT = 16 };
 enum { TAKES_ROW = ADVANCE | LENT, HAS_STATE = BALLOT | TAKES_ROW | RESULT, ALL = OPEN | HAS_STATE };
-enum { CALLS = 5, LONGEST_ROW = 300, BLOCK = 10000, BLOCKS = 10, NUMBERS = 16 };
+enum { CALLS = 5, LONGEST_ROW = 300, BLOCK = 10000, BLOCKS = 10, NUMBERS = 17 };
 
 static const char *const call_name[CALLS] = {"open", "ballot", "advance", "advance_lent", "result"};
 static uint8_t some_row[LONGEST_ROW];

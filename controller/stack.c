@@ -74,6 +74,7 @@ static struct call c;
 static struct vembopu_station lent, lent_before;
 static const struct read_input *reading;
 static const struct write_input *writing;
+static const struct generate_input *generating;
 static const struct rehearse_input *rehearsing;
 static const struct check_input *checking;
 static const struct exchange_input *exchanging;
@@ -132,6 +133,12 @@ static void write_sheet(void)
     number = vembopu_refusal(vembopu_write(header, i->header_len, table, i->table_len, sheet, i->sheet_len));
 }
 
+static void generate(void)
+{
+    const struct generate_input *i = generating;
+    number = vembopu_generate(header, i->header_len, i->seed, table, i->table_len);
+}
+
 static void rehearse(void)
 {
     const struct rehearse_input *i = rehearsing;
@@ -167,12 +174,13 @@ static struct measured {
     {"vembopu_read_bit", read_bit, VEMBOPU_STACK_READ_BIT, 0, 0, 0, 0},
     {"vembopu_sheet_len", sheet_bytes, VEMBOPU_STACK_SHEET_LEN, 0, 0, 0, 0},
     {"vembopu_write", write_sheet, VEMBOPU_STACK_WRITE, 0, 0, 0, 0},
+    {"vembopu_generate", generate, VEMBOPU_STACK_GENERATE, 0, 0, 0, 0},
     {"vembopu_rehearse", rehearse, VEMBOPU_STACK_REHEARSE, 0, 0, 0, 0},
     {"vembopu_check", check_log, VEMBOPU_STACK_CHECK, 0, 0, 0, 0},
     {"vembopu_exchange", exchange, VEMBOPU_STACK_EXCHANGE, 0, 0, 0, 0},
 };
 
-enum { OPEN, BALLOT, ADVANCE, RESULT, LENT, READ, READ_BIT, SHEET_LEN, WRITE, REHEARSE, CHECK, EXCHANGE };
+enum { OPEN, BALLOT, ADVANCE, RESULT, LENT, READ, READ_BIT, SHEET_LEN, WRITE, GENERATE, REHEARSE, CHECK, EXCHANGE };
 
 /* ---- Measuring ---- */
 
@@ -243,16 +251,31 @@ static void sheets(void)
     }
 }
 
+/* The header of a sheet, and a record behind it, with a byte changed. */
+static void make_header(uint8_t w, size_t at, uint8_t byte)
+{
+    make_sheet(sheet, w, 1);
+    memcpy(header, sheet, sizeof header);
+    header[at] = byte;
+}
+
 static void writings(void)
 {
     for (size_t i = 0; i < COUNT(write_inputs); i++) {
         writing = &write_inputs[i];
-        make_sheet(sheet, writing->w, 1);
-        memcpy(header, sheet, sizeof header);
-        header[writing->at] = writing->byte;
+        make_header(writing->w, writing->at, writing->byte);
         make_table(table, writing->w, writing->k);
         measure(WRITE, writing->number);
         measure(SHEET_LEN, refused_by_sheet(writing) ? 0 : writing->number);
+    }
+}
+
+static void generations(void)
+{
+    for (size_t i = 0; i < COUNT(generate_inputs); i++) {
+        generating = &generate_inputs[i];
+        make_header(generating->w, generating->at, generating->byte);
+        measure(GENERATE, generating->number);
     }
 }
 
@@ -303,6 +326,7 @@ int main(void)
     stations();
     sheets();
     writings();
+    generations();
     rehearsals();
     checks();
     exchanges();

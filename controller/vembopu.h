@@ -79,8 +79,8 @@
  * tell theirs: take them and the headers from one version.
  */
 #define VEMBOPU_VERSION_MAJOR 1
-#define VEMBOPU_VERSION_MINOR 6
-#define VEMBOPU_VERSION "1.6"
+#define VEMBOPU_VERSION_MINOR 7
+#define VEMBOPU_VERSION "1.7"
 
 #ifdef __cplusplus
 extern "C" {
@@ -108,8 +108,8 @@ static inline int vembopu_rounds(uint8_t t)
 enum {
     VEMBOPU_ACCEPTED = 0,
     VEMBOPU_BAD_SHEET = 1,        /* sheet_len not 12 + 8k with k from 0 to
-                                     4,096, or a header to be written not of
-                                     12 bytes */
+                                     4,096, or a header handed in by itself
+                                     not of 12 bytes */
     VEMBOPU_BAD_N = 2,            /* n outside 1 to 32 */
     VEMBOPU_BAD_THRESHOLDS = 3,   /* t above upper, or t + 2*upper not
                                      below n */
@@ -137,7 +137,8 @@ enum {
     VEMBOPU_TOO_MANY_RECORDS = 14,
                                   /* more than 4,096 records are to be
                                      written */
-    VEMBOPU_BAD_WIDTH = 15        /* w, the bits of a number, above 8 */
+    VEMBOPU_BAD_WIDTH = 15,       /* w, the bits of a number, above 8 */
+    VEMBOPU_BAD_SEED = 16         /* a seed of 0 */
 };
 
 /*

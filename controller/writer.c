@@ -11,35 +11,15 @@
 #include "exports.h"
 #include "inputs.h"
 #include "model.h"
+#include "sheet_header.h"
 
-enum { LONGEST_HEADER = HEADER + RECORD, LONGEST_SHEET = SHEET + RECORD, LONGEST_TABLE = TABLES + 1 };
-enum { UNWRITTEN = 170, BLOCK = 1000, BLOCKS = 12, NUMBERS = 16 };
+enum { LONGEST_SHEET = SHEET + RECORD, LONGEST_TABLE = TABLES + 1 };
+enum { BLOCK = 1000, BLOCKS = 12, NUMBERS = 17 };
 
 /* ---- One call ---- */
 
 static struct guarded header_area, table_area, sheet_area;
 static uint8_t wanted[LONGEST_SHEET];
-
-/* The sheet's place, unwritten, on pages that can be written only if asked. */
-static uint8_t *lay_sheet(size_t len, int writable)
-{
-    struct guarded g = sheet_area;
-    mprotect(g.page, g.size, PROT_READ | PROT_WRITE);
-    memset(g.page, UNWRITTEN, g.size);
-    if (!writable)
-        mprotect(g.page, g.size, PROT_READ);
-    return len == 0 ? NULL : g.page + g.size - len;
-}
-
-/* 1 if the sheet has these bytes and nothing is written before it. */
-static int written_as(const uint8_t *bytes, size_t len)
-{
-    const uint8_t *end = sheet_area.page + sheet_area.size - len;
-    int same = memcmp(end, bytes, len) == 0;
-    for (const uint8_t *p = sheet_area.page; p < end; p++)
-        same = same && *p == UNWRITTEN;
-    return same;
-}
 
 /* Says the first few that differ. */
 static int told(const char *name, const struct writing *w, uint64_t got, uint64_t want)
@@ -60,12 +40,12 @@ static int agrees(const struct writing *w)
     const uint8_t *table = guarded_bytes(table_area, w->table, w->table_len);
     memset(wanted, UNWRITTEN, sizeof wanted);
     uint64_t want_len = model_sheet_len(w), want = model_write(w, wanted);
-    uint8_t *sheet = lay_sheet(w->sheet_len, vembopu_refusal(want) == 0);
+    uint8_t *sheet = lay_unwritten(sheet_area, w->sheet_len, vembopu_refusal(want) == 0);
     uint64_t len = vembopu_sheet_len(header, w->header_len, table, w->table_len);
     uint64_t got = vembopu_write(header, w->header_len, table, w->table_len, sheet, w->sheet_len);
     if (len != want_len)
         return told("vembopu_sheet_len", w, len, want_len);
-    if (got != want || !written_as(wanted, w->sheet_len))
+    if (got != want || !written_as(sheet_area, wanted, w->sheet_len))
         return told("vembopu_write", w, got, want);
     return 1;
 }
@@ -106,21 +86,7 @@ static void add_record(struct draft *d)
 FAULT(header_short, d->w.header_len = HEADER - 1)
 FAULT(header_sheet, d->w.header_len = HEADER + RECORD)
 FAULT(header_null, d->w.header = NULL; d->w.header_len = 0)
-FAULT(w_9, d->header[5] = 9)
-FAULT(w_255, d->header[5] = 255)
-FAULT(n_0, d->header[0] = 0)
-FAULT(n_33, d->header[0] = 33)
-FAULT(n_255, d->header[0] = 255)
-FAULT(t_above, d->header[1] = (uint8_t)after(d->header[2]))
-FAULT(sum_is_n, d->header[1] = d->header[0] % 2; d->header[2] = d->header[0] / 2)
-FAULT(sum_256, d->header[1] = 2; d->header[2] = 127)
-FAULT(sum_512, d->header[1] = 170; d->header[2] = 171)
-FAULT(sender_0, d->header[3] = 0)
-FAULT(sender_above, d->header[3] = (uint8_t)after(d->header[0]))
-FAULT(value_above, d->header[4] = (uint8_t)(1 << vembopu_bits(base.header[5])))
-FAULT(value_255, d->header[4] = 255)
-FAULT(mark_above, d->header[8 + base.header[0] / 8] |= (uint8_t)(1 << base.header[0] % 8))
-FAULT(mark_32, d->header[11] |= 128)
+HEADER_FAULTS
 FAULT(table_short, d->w.table_len = base.w.table_len - 1)
 FAULT(table_long, d->w.table_len = base.w.table_len + 1)
 FAULT(table_of_bit_0, d->w.table_len = table_bytes(base.header))
@@ -131,9 +97,7 @@ FAULT(sheet_long, d->w.sheet_len = base.w.sheet_len + 1)
 FAULT(sheet_record, d->w.sheet_len = base.w.sheet_len + RECORD)
 FAULT(sheet_null, d->w.sheet_len = 0)
 
-/* In the order of refusals; which lines each is for. */
-enum { ANY, BELOW_32, BELOW_8_BITS, SEVERAL_BITS, FULL };
-
+/* In the order of refusals. */
 static const struct fault {
     const char *what;
     int number, lines;
@@ -142,21 +106,7 @@ static const struct fault {
     {"header of 11", 1, ANY, header_short},
     {"header of 20", 1, ANY, header_sheet},
     {"header NULL", 1, ANY, header_null},
-    {"w 9", 15, ANY, w_9},
-    {"w 255", 15, ANY, w_255},
-    {"n 0", 2, ANY, n_0},
-    {"n 33", 2, ANY, n_33},
-    {"n 255", 2, ANY, n_255},
-    {"t above T", 3, ANY, t_above},
-    {"t + 2T = n", 3, ANY, sum_is_n},
-    {"t + 2T = 256", 3, ANY, sum_256},
-    {"t + 2T = 512", 3, ANY, sum_512},
-    {"sender 0", 4, ANY, sender_0},
-    {"sender n+1", 4, ANY, sender_above},
-    {"2 to the power w", 5, BELOW_8_BITS, value_above},
-    {"value 255", 5, BELOW_8_BITS, value_255},
-    {"a mark at n+1", 6, BELOW_32, mark_above},
-    {"a mark at 32", 6, BELOW_32, mark_32},
+    HEADER_FAULT_ROWS,
     {"table short", 8, ANY, table_short},
     {"table long", 8, ANY, table_long},
     {"table of one bit", 8, SEVERAL_BITS, table_of_bit_0},
@@ -168,24 +118,12 @@ static const struct fault {
     {"sheet NULL", 8, ANY, sheet_null},
 };
 
-static void put_marks(uint8_t *header, uint32_t marks)
-{
-    for (int i = 0; i < 4; i++)
-        header[8 + i] = (uint8_t)(marks >> 8 * i & 255);
-}
-
 /* Tables of w bits with k ballots, spread over them, where all stations are
    marked, and their needed sheet. */
 static void make_base(uint8_t n, uint8_t t, uint8_t T, uint8_t w, size_t k)
 {
-    static const uint8_t header[HEADER] = {0, 0, 0, 1, 1, 0, 255, 255, 0, 0, 0, 0};
     memset(&base, 0, sizeof base);
-    memcpy(base.header, header, HEADER);
-    base.header[0] = n;
-    base.header[1] = t;
-    base.header[2] = T;
-    base.header[5] = w;
-    put_marks(base.header, 0xffffffffu >> (32 - n));
+    make_header(base.header, n, t, T, w);
     size_t len = tables_bytes(base.header);
     memset(base.table, 255, sizeof base.table);
     for (size_t i = 0; i < k; i++)
@@ -193,21 +131,10 @@ static void make_base(uint8_t n, uint8_t t, uint8_t T, uint8_t w, size_t k)
     base.w = (struct writing){base.header, HEADER, base.table, len, HEADER + RECORD * k};
 }
 
+/* Some are only for as many records as there can be. */
 static int is_for(const struct fault *f)
 {
-    int bits = vembopu_bits(base.header[5]);
-    switch (f->lines) {
-    case BELOW_32:
-        return base.header[0] < 32;
-    case BELOW_8_BITS:
-        return bits < 8;
-    case SEVERAL_BITS:
-        return bits > 1;
-    case FULL:
-        return base.w.sheet_len == SHEET;
-    default:
-        return 1;
-    }
+    return is_for_header(f->lines, base.header) && (f->lines != FULL || base.w.sheet_len == SHEET);
 }
 
 /* The number of the first fault, of the model and of both calls. */
@@ -309,33 +236,6 @@ static int reads_back(const struct writing *w)
 /* ---- By lot ---- */
 
 static unsigned long met[2][NUMBERS];
-
-/* Mostly an accepted line; else any bytes. */
-static void draw_numbers(uint8_t *header)
-{
-    for (int i = 0; i < LONGEST_HEADER; i++)
-        header[i] = (uint8_t)draw(256);
-    if (draw(16) == 0)
-        return;
-    uint32_t n = 1 + draw(32), T = draw((n + 1) / 2), rest = n - 1 - 2 * T;
-    header[0] = (uint8_t)(draw(24) == 0 ? draw(2) * 33 : n);
-    header[1] = (uint8_t)draw((rest < T ? rest : T) + 1 + (draw(16) == 0));
-    header[2] = (uint8_t)T;
-    header[3] = (uint8_t)(draw(16) == 0 ? draw(256) : 1 + draw(n));
-    uint32_t w = draw(3) == 0 ? draw(9) : draw(3);
-    header[4] = (uint8_t)(draw(16) == 0 ? draw(256) : draw((uint32_t)1 << bits_of((int)w)));
-    header[5] = (uint8_t)(draw(16) == 0 ? draw(256) : w);
-}
-
-/* None, some, most or all of the stations; a mark beyond n now and then. */
-static void draw_marks(uint8_t *header)
-{
-    const uint32_t kinds[] = {0, draw_word() & draw_word(), draw_word() | draw_word(), 0xffffffffu};
-    uint32_t marks = kinds[draw(4)];
-    if (header[0] < 32 && draw(16) != 0)
-        marks &= ((uint32_t)1 << header[0]) - 1;
-    put_marks(header, marks);
-}
 
 /* Any bytes, ballots, or silence with a ballot here and there. */
 static void draw_table(struct draft *d)

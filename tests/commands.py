@@ -23,10 +23,12 @@ TOP = pathlib.Path(__file__).resolve().parent.parent
 AGREE, LISTING = TOP / "examples" / "a.sheet", (TOP / "examples" / "a.listing").read_bytes()
 UNTIDY, TIDY = TOP / "examples" / "untidy.sheet", (TOP / "examples" / "tidy.sheet").read_bytes()
 RECIPE, WIDEST = ({end: (TOP / "examples" / f"{name}.{end}").read_bytes() for end in ("sheet", "text", "listing")} for name in ("recipe", "widest"))
+NOISY, LISTINGS = "examples/noisy.sheet", (TOP / "examples" / "noisy.listings").read_bytes()
 LINE, FILES = ("5", "1", "1", "2"), ("examples/foreign.log", "examples/foreign.outcomes")
 LOG, OUTCOMES, BROKE = ((TOP / "examples" / f"foreign.{end}").read_bytes() for end in ("log", "outcomes", "broke"))
 # those of one file or standard input; ./audit has its own trials
-COMMANDS = "agree", "rewrite", "sheet", "text", "draw"
+COMMANDS = "agree", "seeds", "rewrite", "sheet", "text", "draw"
+PROGRAMS = "agree", "rewrite", "audit", "seeds"
 # a command that hasn't ended after so many seconds hangs
 HANGS = 600
 
@@ -107,7 +109,7 @@ def refusals(folder):
         if listing.startswith(b"refused "):
             number = listing.split()[1].decode()
             file.write_bytes(sheet)
-            for command, out in ("agree", listing), ("rewrite", listing), ("text", b""), ("draw", b""):
+            for command, out in ("agree", listing), ("seeds", listing), ("rewrite", listing), ("text", b""), ("draw", b""):
                 said = re.escape(f"{command}: {file}: refused {number}: {told[number]}\n{command}: it has {len(sheet)} bytes\n")
                 yield f"{command}, refused: {name}", Ran(command, file).gives(1, out, said)
     said = r"agree: examples/a.text: refused 1: .*\nagree: it looks like a text: ./sheet examples/a.text >line.sheet makes its run sheet\n"
@@ -122,7 +124,7 @@ def refusals(folder):
 def documented():
     rows = dict(re.findall(r"^\| (\d+) \| (.*) \|$", (TOP / "README.md").read_text(encoding="utf-8"), re.M))
     yield "README.md has the causes in the same words", rows == causes()
-    yield "the causes 1 to 15 and no others", [int(number) for number in causes()] == list(range(1, 16))
+    yield "the causes 1 to 16 and no others", [int(number) for number in causes()] == list(range(1, 17))
 
 
 # ---- trouble with the streams
@@ -153,7 +155,7 @@ def troubles(folder):
         yield f"{command}: no output", (done.returncode, done.stderr) == (2, f"{command}: standard output is closed\n".encode())
         with unready(sheet[:5]) as waits:
             yield f"{command}: an input that isn't ready after half a sheet", Ran(command, stdin=waits).gives(2, b"", f"{command}: standard input.*\n")
-    for command in "agree", "rewrite":
+    for command in "agree", "seeds", "rewrite":
         with unready(b"") as waits:
             yield f"{command}: an input that isn't ready", Ran(command, stdin=waits).gives(2, b"", f"{command}: standard input could not be read\n")
         with open("/dev/full", "wb") as full:
@@ -167,10 +169,10 @@ def troubles(folder):
 # ---- on a terminal, and how it is used
 
 
-def on_terminal(words, top=TOP, env=None, streams=("stdin", "stdout", "stderr")):
-    """Status of a command with these streams on a terminal, and all that it writes there."""
+def on_terminal(words, top=TOP, env=None, streams=("stdin", "stdout", "stderr"), **others):
+    """Status of a command with these streams on a terminal, and all that it writes there; the others are what they are given as, or nothing."""
     near, far = pty.openpty()
-    given = {name: far if name in streams else subprocess.DEVNULL for name in ("stdin", "stdout", "stderr")}
+    given = {name: far if name in streams else others.get(name, subprocess.DEVNULL) for name in ("stdin", "stdout", "stderr")}
     running = subprocess.Popen(words, cwd=top, env=env, start_new_session=True, **given)
     os.close(far)
     shown = b""
@@ -181,9 +183,13 @@ def on_terminal(words, top=TOP, env=None, streams=("stdin", "stdout", "stderr"))
     return running.wait(timeout=HANGS), shown.decode()
 
 
+# what stands before the file where a command's use is told, as a pattern
+OPTIONS = {"draw": r"\[--seed N\] "}
+
+
 def uses():
     for command in COMMANDS:
-        usage = rf"usage: ./{command} \[[A-Z]+\]\n(?s:.*)Exit status: 0 (?s:.*)"
+        usage = rf"usage: ./{command} {OPTIONS.get(command, '')}\[[A-Z]+\]\n(?s:.*)Exit status: 0 (?s:.*)"
         asked = Ran(command, "--help")
         yield f"{command} --help", asked.status == 0 and re.fullmatch(usage, asked.out.decode()) and not asked.said
         yield f"{command}: an unknown option", Ran(command, "-x").gives(2, b"", f"{command}: there is no option -x\n{usage}")
@@ -200,6 +206,122 @@ def uses():
         yield f"{command}: a terminal as output", status == 2 and shown.startswith(said)
     status, shown = on_terminal(["./agree", "examples/a.sheet"])
     yield "agree: a listing on a terminal", (status, shown.replace("\r\n", "\n").encode()) == (0, LISTING)
+
+
+# ---- noisy runs
+
+
+def seen(shown):
+    """The lines that a terminal is left with, of what was written to it."""
+    return [seen_line(row) for row in shown.split("\n")]
+
+
+def seen_line(row):
+    """A return goes back to the line's start, and ESC [ K empties the rest of it."""
+    line, at = "", 0
+    for part in re.findall(r"\r|\x1b\[K|[^\r\x1b]+", row):
+        if part == "\x1b[K":
+            line = line[:at]
+        else:
+            line, at = (line, 0) if part == "\r" else (line[:at] + part + line[at + len(part):], at + len(part))
+    return line.rstrip()
+
+
+def watched(folder, *words, **others):
+    """Status, output and all that is written to a terminal as standard error."""
+    with open(folder / "out", "w+b") as out:
+        status, shown = on_terminal(words, streams=("stderr",), stdout=out, **others)
+        return status, (folder / "out").read_bytes(), shown
+
+
+def noisy_runs(folder):
+    """./seeds: a file, standard input; with a terminal as standard error, which is told how far it is, and what it is left with."""
+    sheet = (TOP / NOISY).read_bytes()
+    yield "seeds: a file", Ran("seeds", NOISY).gives(0, LISTINGS)
+    yield "seeds: standard input", Ran("seeds", input=sheet).gives(0, LISTINGS) and Ran("seeds", "-", input=sheet).gives(0, LISTINGS)
+    yield "seeds: a sheet in a pipe that comes in two parts", in_shell(f"(head -c 5; sleep 0.3; cat) <{NOISY} | ./seeds").stdout == LISTINGS
+    status, out, shown = watched(folder, "./seeds", NOISY)
+    steps = [int(step) for step in re.findall(r"\rseeds: (\d+) of 100", shown)]
+    yield "seeds: the same with a terminal as standard error", (status, out) == (0, LISTINGS)
+    yield "seeds: which is told how far it is", len(steps) > 1 and steps == sorted(set(steps)) and steps[-1] <= 100
+    yield "seeds: in one line, of which nothing is left", seen(shown) == [""]
+    status, shown = on_terminal(["./seeds", NOISY])
+    yield "seeds: all on a terminal", status == 0 and seen(shown) == LISTINGS.decode().split("\n")
+    yield "seeds: a refused sheet, and a terminal", watched(folder, "./seeds", "examples/a.text")[:2] == (1, b"refused 1\n")
+    said = r"seeds: examples/a.text: refused 1: .*\nseeds: it looks like a text: .*\n"
+    yield "seeds: what is said of it there", re.fullmatch(said, "\n".join(seen(watched(folder, "./seeds", "examples/a.text")[2])))
+    said = "seeds: /proc/self/mem could not be read\n"
+    yield "seeds: a file that can't be read", Ran("seeds", "/proc/self/mem").gives(2, b"", said)
+    status, out, shown = watched(folder, "./seeds", "/proc/self/mem")
+    left = ["seeds: standard input could not be read", "seeds: /proc/self/mem: not all listings were made", ""]
+    yield "seeds: the same, and a terminal", (status, out, seen(shown)) == (2, b"", left)
+
+
+def cut_listings(folder):
+    """A program whose listings are cut, with a terminal as standard error: some of a hundred, a line of the last, its last byte, all; then one that is killed."""
+    copy = Copy(folder / "cut")
+    copy.seeds()
+    program, left = copy.top / "target" / "bin" / "seeds", folder / "left"
+    cuts = {"half of them": len(LISTINGS) // 2, "a line": LISTINGS[:-1].rindex(b"\n") + 1, "a byte": len(LISTINGS) - 1, "all": 0}
+    for name, size in cuts.items():
+        left.write_bytes(LISTINGS[:size])
+        program.write_text(f"#!/bin/sh\ncat '{left}'\n")
+        status, out, shown = watched(folder, "./seeds", str(TOP / NOISY), top=copy.top, env=copy.env)
+        told = seen(shown) == [f"seeds: {TOP / NOISY}: not all listings were made", ""]
+        yield f"seeds: {name} missing", (status, out) == (2, LISTINGS[:size]) and told
+    program.write_text("#!/bin/sh\nprintf '\\rseeds: 10 of 100' >&2\nkill -9 $$\n")
+    status, out, shown = watched(folder, "./seeds", str(TOP / NOISY), top=copy.top, env=copy.env)
+    yield "seeds: killed", (status, out, seen(shown)) == (2, b"", [f"seeds: {TOP / NOISY}: the program ended with status 137", ""])
+
+
+def stopped(folder):
+    """^C on the terminal while the listings are made: it ends by the signal, and nothing is left, on the terminal either."""
+    copy, shown, told = Copy(folder / "stopped"), b"", False
+    copy.seeds()
+    (copy.top / "target" / "bin" / "seeds").write_text("#!/bin/sh\nprintf '\\rseeds: 10 of 100' >&2\nexec sleep 600\n")
+    pid, near = pty.fork()
+    if pid == 0:
+        signal.signal(signal.SIGINT, signal.SIG_DFL)
+        os.chdir(copy.top)
+        os.execve("./seeds", ["./seeds", str(AGREE)], copy.env)
+    with contextlib.suppress(OSError):
+        while part := os.read(near, 4096):
+            shown += part
+            if b"10 of 100" in shown and not told:
+                told = os.write(near, b"\x03") > 0
+    os.close(near)
+    ended = os.waitpid(pid, 0)[1]
+    yield "seeds: ^C", told and os.WIFSIGNALED(ended) and os.WTERMSIG(ended) == signal.SIGINT and seen(shown.decode()) == [""] and copy.left() == []
+
+
+def drawn_by_seed():
+    """./draw --seed: a picture of its own for each seed; which seeds there are; which words are wrong."""
+    plain, first, second = (Ran("draw", *words, NOISY) for words in ((), ("--seed", 1), ("--seed", 2)))
+    pictures = all(one.status == 0 and not one.said and one.out.startswith(b"<svg ") and one.out.endswith(b"</svg>\n") for one in (plain, first, second))
+    yield "draw --seed: pictures", pictures and len({plain.out, first.out, second.out}) == 3
+    sheet = (TOP / NOISY).read_bytes()
+    yield "draw --seed: standard input", all(Ran("draw", "--seed", 1, *words, input=sheet).gives(0, first.out) for words in ((), ("-",), ("--", "-")))
+    yield "draw --seed: zeros before the number", Ran("draw", "--seed", "0000000000001", NOISY).gives(0, first.out)
+    yield "draw --seed: the last of two", Ran("draw", "--seed", 2, "--seed", 1, NOISY).gives(0, first.out)
+    yield "draw --seed: the largest", Ran("draw", "--seed", 2**32 - 1, NOISY).out not in (plain.out, first.out, second.out, b"")
+    for word in "0", "000":
+        yield f"draw --seed {word}", Ran("draw", "--seed", word, NOISY).gives(1, b"", f"draw: {NOISY}: refused 16: {causes()['16']}\n")
+    said = "draw: examples/a.text: refused 1: .*\ndraw: it looks like a text: .*\n"
+    yield "draw --seed 0, of a sheet that is refused", Ran("draw", "--seed", 0, "examples/a.text").gives(1, b"", said)
+    usage = r"usage: ./draw \[--seed N\] \[SHEET\]\n(?s:.*)"
+    wrong = {word: f"{word} is not below 2 to the power 32" for word in (str(2**32), str(2**64 + 1), "1" * 30, "0" + str(2**32))}
+    wrong |= {word: f"'{word}' is no decimal number" for word in ("", "x", "-1", "+1", "1.5", "0x1", " 1", NOISY)}
+    for word, said in wrong.items():
+        yield f"draw --seed '{word}'", Ran("draw", "--seed", word, NOISY).gives(2, b"", f"draw: {re.escape(said)}\n{usage}")
+    yield "draw --seed without a number", Ran("draw", "--seed").gives(2, b"", f"draw: --seed is without its number\n{usage}")
+    yield "draw --seed=1", Ran("draw", "--seed=1", NOISY).gives(2, b"", f"draw: there is no option --seed=1\n{usage}")
+    yield "draw --seed 1 --help", Ran("draw", "--seed", 1, "--help").status == 0
+    yield "draw --seed 1, two files", Ran("draw", "--seed", 1, NOISY, NOISY).gives(2, b"", f"draw: one file at most\n{usage}")
+    status, shown = on_terminal(["./draw", "--seed", "1", NOISY])
+    yield "draw --seed: a terminal as output", status == 2 and shown.startswith("draw: a terminal can't show it: ")
+    for command in COMMANDS:
+        if command not in OPTIONS:
+            yield f"{command} --seed", Ran(command, "--seed", 1, NOISY).gives(2, b"", rf"{command}: there is no option --seed\nusage: (?s:.*)")
 
 
 # ---- ./audit, which takes a line's numbers and two files
@@ -307,7 +429,7 @@ class Copy:
         tools.mkdir()
         for part in "commands", "crates":
             shutil.copytree(TOP / part, self.top / part)
-        for part in "agree", "rewrite", "audit", "crates.txt":
+        for part in *PROGRAMS, "crates.txt":
             shutil.copy(TOP / part, self.top / part)
         (tools / "rt").write_text(RT)
         (tools / "rt").chmod(0o755)
@@ -326,6 +448,9 @@ class Copy:
 
     def audit(self):
         return Ran("audit", *LINE, *FILES, top=self.top, env=self.env)
+
+    def seeds(self):
+        return Ran("seeds", AGREE, top=self.top, env=self.env)
 
     def started(self, stderr):
         """The command in the background; what it makes goes to a file."""
@@ -387,8 +512,8 @@ def building(folder):
     yield "a program older than its crates is built again", again.out == b"agree built\n" and "is older than its sources: " in again.said and len(copy.called()) == 2
     (copy.top / "crates" / "layout" / "specs" / "Chain.antt").unlink()
     yield "also where a file is gone", copy.agree().out == b"agree built\n" and len(copy.called()) == 3
-    made = {"rewrite": copy.rewrite(), "audit": copy.audit()}
-    yield "each program is built by its own command", copy.called()[3:] == ["check rewrite", "check audit"]
+    made = {"rewrite": copy.rewrite(), "audit": copy.audit(), "seeds": copy.seeds()}
+    yield "each program is built by its own command", copy.called()[3:] == ["check rewrite", "check audit", "check seeds"]
     for name, one in made.items():
         told = one.said.startswith(f"{name}: target/bin/{name} isn't built yet: building, ")
         yield f"{name}: told by its own name", told and (one.status, one.out) == (0, f"{name} built\n".encode())
@@ -487,10 +612,10 @@ def identified(folder):
     example = folder / "example"
     sums = Ran("build")
     done = subprocess.run(["sha256sum", "--check"], input=sums.out, cwd=TOP, capture_output=True)
-    yield "./build prints the sums of what it builds", sums.status == 0 and done.stdout.count(b": OK\n") == 6 == sums.out.count(b"\n")
+    yield "./build prints the sums of what it builds", sums.status == 0 and done.stdout.count(b": OK\n") == 7 == sums.out.count(b"\n")
     subprocess.run(["gcc", "-O2", "controller/example.c", "target/staticlib/libcontroller.a", "-o", example], cwd=TOP, check=True)
     subprocess.run(["strip", "-o", folder / "stripped", example], check=True)
-    for built_file in "bin/agree", "bin/rewrite", "bin/audit", "staticlib/libcontroller.a", "staticlib/liblent.a", "staticlib/libexports.a":
+    for built_file in *(f"bin/{name}" for name in PROGRAMS), "staticlib/libcontroller.a", "staticlib/liblent.a", "staticlib/libexports.a":
         said = f"target/{built_file}: target/{built_file} of this tree, to the byte\n"
         yield f"./identify of {built_file}", Ran("identify", f"target/{built_file}").gives(0, said.encode())
     calls = "vembopu_advance, vembopu_ballot, vembopu_open, vembopu_result"
@@ -506,7 +631,7 @@ def identified(folder):
     subprocess.run(["gcc", "-O2", "-c", "controller/example.c", "-o", folder / "named"], cwd=TOP, check=True)
     named = Ran("identify", folder / "named")
     yield "./identify of a file that only names the calls", named.status == 1 and named.out.endswith(b", and has no code of them as this tree builds it\n")
-    for name in "agree", "rewrite", "audit":
+    for name in PROGRAMS:
         program = (TOP / "target" / "bin" / name).read_bytes()
         other.write_bytes(with_other(program, program[-64:]))
         yield f"./identify of a changed {name}", re.fullmatch(rb".*/other: neither a program nor a library of this tree, and none of their calls; its SHA-256 is [0-9a-f]{64}\n", Ran("identify", other).out)
@@ -534,18 +659,20 @@ def pasted(folder):
 
 
 def checks():
-    trials = [inputs, numbers, refusals, troubles, audited, audits_refused, audit_troubles, building, failing, interrupts, at_once, identified, pasted]
+    trials = [inputs, numbers, refusals, troubles, noisy_runs, audited, audits_refused, audit_troubles]
+    trials += [building, cut_listings, stopped, failing, interrupts, at_once, identified, pasted]
     for trial in trials:
         with tempfile.TemporaryDirectory() as folder:
             yield from trial(pathlib.Path(folder).resolve())
     yield from documented()
     yield from uses()
+    yield from drawn_by_seed()
     yield from audit_uses()
 
 
 def ready():
     """Whether the programs are built and newer than their sources: what a first use says is tried by itself. If not, says why and counts that as a failure."""
-    for words in ("build", "agree", "rewrite", "audit"), ("draw", AGREE):
+    for words in ("build", *PROGRAMS), ("draw", AGREE):
         made = Ran(*words)
         if made.status != 0:
             print(f"{made.said}0 passed, 1 failed")

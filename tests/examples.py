@@ -3,12 +3,15 @@
 
 examples.py          writes the sheets and listings of examples/: the documents' cases A to D, a line with garbled ballots and silence, a recipe number with
                      a liar in one bit, the largest number beside a bad station, zeros and ones in balance, a large run in which ten bad stations divide
-                     the good ones, the longest listing, and an untidy sheet beside the tidy one that it is rewritten to. The texts are written by hand,
-                     the picture of case C by ./draw. Then the logs and outcomes, of case A's run and of another maker's, with what the program audit prints of them
+                     the good ones, the longest listing, a line for noisy runs with what the program seeds prints of it, and an untidy sheet beside the tidy
+                     one that it is rewritten to. The texts are written by hand, the picture of case C by ./draw. Then the logs and outcomes, of case A's run
+                     and of another maker's, with what the program audit prints of them
 examples.py --check  holds each sheet to the one made here and to its text, its listing to the model's, and what the program agree prints to the listing; then
-                     some inputs of odd lengths. Holds what the program rewrite writes of all of these, and of the sheets of crate runs, to the model's normal
-                     form. Holds each log to the one made here, its set to the model's and to the least of all markings, and what the program audit prints to
-                     the set; then that program's odd uses. The last line is 'N passed, M failed'
+                     some inputs of odd lengths. Holds what the program seeds prints of these, where their tables are small, to the model's listings of noisy
+                     runs, and those of the noisy line, one by one, to what agree prints of their runs' sheets. Holds what the program rewrite writes of all
+                     of these, and of the sheets of crate runs, to the model's normal form. Holds each log to the one made here, its set to the model's and to
+                     the least of all markings, and what the program audit prints to the set; then that program's odd uses. The last line is
+                     'N passed, M failed'
 """
 import itertools
 import os
@@ -25,9 +28,14 @@ from counting import built, closing
 TOP = os.path.join(os.path.dirname(os.path.abspath(__file__)), "..")
 EXAMPLES = os.path.join(TOP, "examples")
 LONGEST_LISTING = 457
-PROGRAM, REWRITE, AUDIT = PROGRAMS = [os.path.join(TOP, "target", "bin", name) for name in ("agree", "rewrite", "audit")]
+SEEDS = range(1, 101)
+PROGRAM, REWRITE, AUDIT, NOISE = PROGRAMS = [os.path.join(TOP, "target", "bin", name) for name in ("agree", "rewrite", "audit", "seeds")]
 # has no text: none gives records outside the chain
 UNTIDY = "untidy"
+# has listings of noisy runs too
+NOISY = "noisy"
+# of larger tables the model takes too long for a hundred runs
+SMALL_TABLES = 4000
 
 
 # ---- a listing and a set in Python, from the documents
@@ -36,17 +44,39 @@ UNTIDY = "untidy"
 def runs_of(data):
     """The number of the cause by which a sheet is refused, or 0, and the run of each of its bits."""
     cause, tables = reader.read(data, [0] * reader.wanted_size(data))
-    if cause:
-        return cause, []
+    return cause, [] if cause else runs_with(data, tables)
+
+
+def runs_with(data, tables):
+    """The run of each bit of a sheet's header with these tables."""
     n, t, T, sender, value, w, marks = reader.header(data)
-    return 0, model.runs_of_bits(n, t, T, sender - 1, value, w, [bool(marks >> i & 1) for i in range(n)], tables)
+    return model.runs_of_bits(n, t, T, sender - 1, value, w, bad_of(n, marks), tables)
+
+
+def bad_of(n, marks):
+    return [bool(marks >> i & 1) for i in range(n)]
 
 
 def listing(data):
-    """ "A bad station is told by grade 255, since 255 can be a recipe." """
     cause, runs = runs_of(data)
-    if cause:
-        return f"refused {cause}\n"
+    return f"refused {cause}\n" if cause else listing_of(runs)
+
+
+def noisy_tables(data, seed):
+    """What the generator makes of a sheet's header."""
+    n, t, _, _, _, w, marks = reader.header(data)
+    return model.generated(n, t, w, bad_of(n, marks), seed)
+
+
+def listings(data):
+    """ "A program reads one sheet, keeps its header and prints the listings for seeds 1 to 100. A sheet that the reader refuses prints its one refusal line and no
+    more." """
+    cause, _ = runs_of(data)
+    return f"refused {cause}\n" if cause else "".join(listing_of(runs_with(data, noisy_tables(data, seed))) for seed in SEEDS)
+
+
+def listing_of(runs):
+    """ "A bad station is told by grade 255, since 255 can be a recipe." """
     run, (_, outcomes) = runs[0], model.number_broadcast(runs)
     lines = [f"agree {run.n} {run.t} {run.T} {run.sender + 1} {run.rounds}"]
     for i, outcome in enumerate(outcomes, 1):
@@ -135,6 +165,11 @@ def balance():
     return sheet_of(5, 0, 2, 1, 1, [1, 2], divided + [(5, 1, j, 1) for j in (3, 4)] + [(6, i, j, 0) for i, to in ((1, (3, 4, 5)), (2, (3, 4))) for j in to])
 
 
+def noisy():
+    """Four stations, t 0, T 1. Station 1 is bad, sends the value and is the king: it says nothing here, and what is generated in noisy runs."""
+    return sheet_of(4, 0, 1, 1, 1, [1], [], w=1)
+
+
 def longest():
     """The sheet of the longest listing: n, t, T, the sender, R and the counts have two digits, the numbers three. Only a bad station's ballots can be garbled, and
     its own line is the shorter, so there is one: station 1, a king, garbled in every round of bit 7. The good sender's number is 255."""
@@ -184,6 +219,7 @@ def sheets():
         "balance": balance(),
         "large": large(),
         "longest": longest(),
+        NOISY: noisy(),
         UNTIDY: untidy(),
         "tidy": sheet_of(4, 0, 1, 4, 0, [4], [(1, 4, 1, 1), (1, 4, 2, 0), (2, 4, 3, 1), (3, 4, 1, 77)]),
     }
@@ -250,6 +286,7 @@ def made_files():
     """The content of each file that is written here."""
     for name, sheet in sheets().items():
         yield from ((name + ".sheet", sheet), (name + ".listing", listing(sheet).encode()))
+    yield NOISY + ".listings", listings(noisy()).encode()
     for name, (line, log, outcomes) in logs().items():
         yield from ((name + ".log", log), (name + ".outcomes", outcomes), (name + ".broke", audited(line, log, outcomes).encode()))
 
@@ -292,6 +329,31 @@ def checks():
     for name, sheet in odd_inputs().items():
         expected = listing(sheet)
         yield f"{name}: {expected.split(chr(10))[0]}", printed(sheet) == expected.encode()
+
+
+def noisy_runs():
+    """What the program seeds prints of each sheet whose tables are small, refused ones too. Of the noisy line: there are 100 listings; each is that of the sheet
+    which the writer makes of the generated tables; the sheet's own records have no part in it."""
+    stored = read(os.path.join(EXAMPLES, NOISY + ".listings"))
+    for name, sheet in {**sheets(), **odd_inputs()}.items():
+        if runs_of(sheet)[0] or reader.wanted_size(sheet) <= SMALL_TABLES:
+            yield f"{name}: the program prints the listings of noisy runs", printed(sheet, NOISE) == listings(sheet).encode()
+    yield "noisy: the listings are stored", printed(noisy(), NOISE) == stored
+    written = (reader.written(noisy()[:reader.HEADER], noisy_tables(noisy(), seed)) for seed in SEEDS)
+    yield "noisy: each is the listing of a written sheet", b"".join(printed(sheet) for sheet in written) == stored
+    yield "noisy: they differ", len(set(stored.split(b"agree "))) > 50
+    told = sheet_of(4, 0, 1, 1, 1, [1], [(1, 1, j, 1) for j in (2, 3, 4)], w=1)
+    yield "noisy: with records, the same", printed(told, NOISE) == stored and printed(told) != printed(noisy())
+    yield "noisy: stations that differ all flag", all(one_value(part) or all_flag(part) for part in stored.decode().split("agree ")[1:])
+
+
+def one_value(part):
+    """Whether the good stations of a listing decide one value."""
+    return len({row.split()[1] for row in part.splitlines()[1:]} - {"-"}) == 1
+
+
+def all_flag(part):
+    return {row.split()[3] for row in part.splitlines()[1:]} - {"-"} == {"1"}
 
 
 def rewriting(name, sheet):
@@ -381,6 +443,6 @@ def odd_files():
 
 if __name__ == "__main__":
     if sys.argv[1:] == ["--check"]:
-        trials = checks, texts, rewritings, audits, odd_words, odd_files
+        trials = checks, texts, noisy_runs, rewritings, audits, odd_words, odd_files
         sys.exit(not (all(built(pathlib.Path(program)) for program in PROGRAMS) and closing(one for trial in trials for one in trial())))
     write()

@@ -1,5 +1,5 @@
-"""Document 01's steps with document 02's Tickets 2 to 6, for the tests: the graded exchange, the broadcast with its log, the broadcasts of a number's bits, the
-single station, and the checker of logs.
+"""Document 01's steps with document 02's Tickets 2 to 7, for the tests: the graded exchange, the broadcast with its log, the broadcasts of a number's bits, the
+generator of noisy runs, the single station, and the checker of logs.
 
 Stations are counted from 0 and rounds from 1, as in the definitions of crate broadcast.
 """
@@ -200,6 +200,42 @@ def number_broadcast(runs, rules=Rules, numbers=Numbers):
         ends.append(outcomes)
     bad = runs[0].bad
     return log, [rules.bad_outcome if bad[j] else outcome_of_bits(numbers, [end[j] for end in ends]) for j in range(runs[0].n)]
+
+
+# ---- the generator of noisy runs
+
+
+class Noise:
+    """Ticket 7's own: the state's steps, and which bytes of the tables are made of them. An edit replaces one of them."""
+
+    # "a 32-bit state, .. bits beyond 32 dropped"
+    bits = 32
+    # "at each step exclusive-or with itself shifted left 13, then right 17, then left 5"
+    shifts = (lambda state: state << 13), (lambda state: state >> 17), (lambda state: state << 5)
+    # "writes the new state mod 4, with 255 for 3"
+    written = staticmethod(lambda old, new: new)
+    byte = staticmethod(lambda state: SILENCE if state % 4 == 3 else state % 4)
+    # "For each round, marked sender and receiver in table order it steps once"
+    steps = staticmethod(lambda marked: marked)
+    # "With several bits the state runs on from one bit's table to the next."
+    next_table = staticmethod(lambda seed, state: state)
+
+
+def next_state(state, noise=Noise):
+    for shift in noise.shifts:
+        state = (state ^ shift(state)) % 2**noise.bits
+    return state
+
+
+def generated(n, t, w, bad, seed, noise=Noise):
+    """The bits' run tables, one after another; "Other bytes are 255"."""
+    tables, state = [], seed
+    for _ in range(w or 1):
+        for marked in (bad[i] for _ in range(3 * t + 6) for i in range(n) for _ in range(n)):
+            old, state = state, next_state(state, noise) if noise.steps(marked) else state
+            tables.append(noise.byte(noise.written(old, state)) if marked else SILENCE)
+        state = noise.next_table(seed, state)
+    return tables
 
 
 class Station:

@@ -1,4 +1,5 @@
-"""Document 01's reader of run sheets and document 02's writer (Ticket 1), of numbers of w bits (Ticket 5), for the tests, from the documents alone.
+"""Document 01's reader of run sheets and document 02's writer (Ticket 1), of numbers of w bits (Ticket 5), and what its generator refuses (Ticket 7), for the
+tests, from the documents alone.
 
 A sheet is bytes. Stations and rounds keep the documents' numbers, from 1, and bits theirs, from 0.
 """
@@ -142,9 +143,14 @@ def records(head, table):
                 yield r, i, j, ballot, b
 
 
+def judge_header(head):
+    """0, or the first of the causes 1, 15 and 2 to 6 of a header handed in by itself: "A header not of 12 bytes is 1." """
+    return 1 if len(head) != HEADER else opening(head)
+
+
 def needed(head, table):
     """The number of the cause, or 0, before a sheet's buffer is looked at, and how many bytes the sheet needs, 0 if it is refused."""
-    cause = 1 if len(head) != HEADER else opening(head)
+    cause = judge_header(head)
     if cause == 0 and len(table) != tables_size(*head[:2], head[5]):
         cause = 8
     k = 0 if cause else len(list(records(head, table)))
@@ -171,3 +177,16 @@ def rewritten(sheet):
     """The number of the cause, or 0, and the normal form: the sheet read, then written from its first 12 bytes and its table."""
     cause, table = read(sheet, [SILENCE] * wanted_size(sheet))
     return cause, b"" if cause else written(sheet[:HEADER], table)
+
+
+# ---- the generator
+
+
+def judge_generation(head, seed, lent):
+    """0 or the number of the cause, with a lent table of that length: "Seed zero is refused by 16, after the header's causes and before 8." """
+    cause = judge_header(head)
+    if cause == 0 and seed == 0:
+        cause = 16
+    if cause == 0 and lent != tables_size(*head[:2], head[5]):
+        cause = 8
+    return cause

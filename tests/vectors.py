@@ -1,7 +1,7 @@
 #!/usr/bin/env python3
-"""Holds every exported call and the programs agree, rewrite and audit to the conformance vectors of vectors/ (vectors/README.md has their form), and the model of
-the tests too. Some vectors are derived from those that are there: the reading of one bit from those of all bits, the runs of a number's bits from its own, and
-checks of their logs.
+"""Holds every exported call and the programs agree, rewrite, audit and seeds to the conformance vectors of vectors/ (vectors/README.md has their form), and the
+model of the tests too. Some vectors are derived from those that are there: the reading of one bit from those of all bits, the runs of a number's bits from its
+own, and checks of their logs; what a header and a seed are refused by, generated tables written, read back and rehearsed, and the sheets of noisy runs.
 
 A call is handed each buffer with bytes around it that must stay as they are; so must what it may only read, and in a refused call every
 buffer. Then the test itself is tried: on copies of the vectors with a wrong answer planted in each, on calls that write where they may not or
@@ -26,7 +26,7 @@ from model import OUTCOME
 
 TOP = pathlib.Path(__file__).resolve().parent.parent
 VECTORS = TOP / "vectors"
-PROGRAM, REWRITE, AUDIT = PROGRAMS = [TOP / "target" / "bin" / name for name in ("agree", "rewrite", "audit")]
+PROGRAM, REWRITE, AUDIT, SEEDS = PROGRAMS = [TOP / "target" / "bin" / name for name in ("agree", "rewrite", "audit", "seeds")]
 LIBRARIES = "exports", "controller", "lent"
 LINE, STATION, STATE = ("n", "t", "T"), ("n", "t", "T", "sender", "own"), ("round", "value", "z", "grade", "count")
 NUMBER = *LINE, "sender", "value", "w", "marks"
@@ -52,12 +52,12 @@ class Buffer:
     def __init__(self, name, content, sized=True):
         self.name, self.size, self.sized = name, len(content), sized
         self.before = self.filling(AROUND) + bytes(content) + self.filling(AROUND)
-        self.held = (ctypes.c_uint8 * len(self.before))(*self.before)
+        self.held = (ctypes.c_uint8 * len(self.before)).from_buffer_copy(self.before)
 
     @staticmethod
     def filling(size):
-        """Bytes that a call would hardly write."""
-        return bytes((37 * place + 101) % 256 for place in range(size))
+        """Bytes that a call would hardly write, all 256 over and over."""
+        return (bytes((37 * place + 101) % 256 for place in range(256)) * (size // 256 + 1))[:size]
 
     @classmethod
     def lent(cls, name, size):
@@ -90,7 +90,7 @@ class Library:
         byte, word, size, place = ctypes.c_uint8, ctypes.c_uint32, ctypes.c_size_t, ctypes.c_void_p
         buffer, station, state = [place, size], [byte] * 5, [ctypes.c_uint64]
         self.declare(byte, vembopu_read=buffer * 2, vembopu_read_bit=buffer + [byte] + buffer, vembopu_advance_lent=[place] + buffer)
-        self.declare(byte, vembopu_exchange=[byte] * 3 + [word] + buffer * 3)
+        self.declare(byte, vembopu_generate=buffer + [word] + buffer, vembopu_exchange=[byte] * 3 + [word] + buffer * 3)
         self.declare(byte, vembopu_rehearse=[byte] * 6 + [word] + buffer * 3)
         self.declare(ctypes.c_uint64, vembopu_open=station + [byte], vembopu_advance=station + state + buffer)
         self.declare(ctypes.c_uint64, vembopu_ballot=station + state, vembopu_result=station + state)
@@ -158,6 +158,11 @@ def write(library, args):
     if records != (0 if refused else (sheet[0].size - sheets.HEADER) // sheets.RECORD):
         raise Fault(f"vembopu_write answers {refused} and {records} records")
     return answer(refused, inputs, sheet)
+
+
+def generate(library, args):
+    header, table = given(args, "header"), lent(args, "table")
+    return answer(library.call("vembopu_generate", *header, args["seed"], *table), header, table)
 
 
 def exchange(library, args):
@@ -247,7 +252,7 @@ def station_state(library, args):
     return {"refusals": {**refusals, "row": one.take(bytes.fromhex(args["row_bytes"]))}}
 
 
-CALLS = {call.__name__: call for call in (read, read_bit, write, exchange, rehearse, check, station, station_state)}
+CALLS = {call.__name__: call for call in (read, read_bit, write, generate, exchange, rehearse, check, station, station_state)}
 
 
 def call_fault(library, vector):
@@ -269,10 +274,18 @@ def rewrite(data):
     return ran(REWRITE, data)
 
 
-def listing_fault(program, vector):
-    """What is wrong with what the program prints of a sheet, if anything is."""
+def printed_fault(program, vector, wanted):
+    """What is wrong with what the program prints of a vector's sheet, if it isn't the wanted text."""
     made = ran(program, bytes.fromhex(vector["sheet"]))
-    return None if made == (0, vector["listing"].encode(), b"") else f"gives {made}, wanted is {vector['listing']!r}"
+    return None if made == (0, wanted.encode(), b"") else f"gives {made}, wanted is {wanted!r}"
+
+
+def listing_fault(program, vector):
+    return printed_fault(program, vector, vector["listing"])
+
+
+def listings_fault(program, vector):
+    return printed_fault(program, vector, vector["listings"])
 
 
 def sheet_refusal(vector):
@@ -352,6 +365,11 @@ def model_write(args, header, table):
     return cause, {} if cause else {"sheet": sheets.written(header, table).hex()}
 
 
+def model_generate(args, header):
+    cause = sheets.judge_generation(header, args["seed"], args["table_len"])
+    return cause, {} if cause else {"table": bytes(examples.noisy_tables(header, args["seed"])).hex()}
+
+
 def model_rehearse(args, table):
     """Refused as a sheet of these numbers would be, then by a buffer's length."""
     n, t, _, _, _, w, marks = (args[name] for name in NUMBER)
@@ -365,7 +383,7 @@ def model_rehearse(args, table):
     return 0, {"log": bytes(log).hex(), "outcomes": in_hex(outcomes)}
 
 
-MODELLED = {"read": model_read, "read_bit": model_read_bit, "write": model_write, "rehearse": model_rehearse}
+MODELLED = {"read": model_read, "read_bit": model_read_bit, "write": model_write, "generate": model_generate, "rehearse": model_rehearse}
 
 
 def runs_of(args, table):
@@ -382,6 +400,8 @@ def model_fault(vector):
     """What is wrong with what the model makes of a vector, if anything is."""
     if "listing" in vector:
         made, wanted = examples.listing(bytes.fromhex(vector["sheet"])), vector["listing"]
+    elif "listings" in vector:
+        made, wanted = examples.listings(bytes.fromhex(vector["sheet"])), vector["listings"]
     else:
         made, wanted = modelled(vector["call"], vector["args"]), vector["want"]
     return None if made == wanted else f"gives {made!r}, wanted is {wanted!r}"
@@ -444,6 +464,67 @@ def rehearsed(calls):
             for station in unmarked(args["outcomes"])[:1]:
                 args = args | {"outcomes": miscounted(args["outcomes"], station)}
                 yield f"{place}, miscounted", {"call": "check", "args": args, "want": {"marks": marks | 1 << station}}
+
+
+def generations(calls):
+    """What follows from a generation for others: a first index is not looked at; a header a byte short is 1, w above 8 is 15, a seed of 0 is 16 before 8."""
+    for place, vector in calls:
+        if vector["call"] == "generate":
+            args, want, header = vector["args"], vector["want"], vector["args"]["header"]
+            others = {
+                "another first index": ({"header": header[:12] + "ffff" + header[16:]}, want), "a byte short": ({"header": header[:-2], "seed": 0}, {"refused": 1}),
+                "w 9": ({"header": header[:10] + "09" + header[12:], "seed": 0}, {"refused": 15}),
+                "seed 0": ({"seed": 0, "table_len": args["table_len"] + 1}, {"refused": 16} if want.get("refused") in (None, 8, 16) else want),
+            }
+            for name, (other, wanted) in others.items():
+                yield f"{place}, {name}", {"call": "generate", "args": args | other, "want": wanted}
+
+
+def generated_runs(calls):
+    """Each generated table written, the sheet read, and the table rehearsed: sheet, log and outcomes are the model's, and what is read is what was generated."""
+    for place, vector in calls:
+        if vector["call"] == "generate" and "refused" not in vector["want"]:
+            header, table = (bytes.fromhex(part) for part in (vector["args"]["header"], vector["want"]["table"]))
+            size = sheets.needed(header, table)[1]
+            for call, args in ("write", {"header": header.hex(), "table": table.hex(), "sheet_len": size}), ("rehearse", rehearsal_of(header, table)):
+                yield f"{place}, {call}", {"call": call, "args": args, "want": modelled(call, args)}
+            if size:
+                args = {"sheet": sheets.written(header, table).hex(), "table_len": len(table)}
+                yield f"{place}, read back", {"call": "read", "args": args, "want": vector["want"]}
+
+
+def rehearsal_of(header, table):
+    """The arguments of a rehearsal of a header's numbers."""
+    return dict(zip(NUMBER, sheets.header(header))) | {"table": table.hex(), "log_len": len(table), "outcomes_len": OUTCOME * header[0]}
+
+
+# of a noisy line's 100 listings those that are held one by one
+SOME_SEEDS = 1, 2, 100
+
+
+def listings_of_seeds(seeds):
+    """Listings that follow from those of noisy runs: of a refused sheet, the refusal; of any other, the model's; of the sheet that is written of a seed's tables,
+    that seed's."""
+    for place, vector in seeds:
+        sheet, listings = bytes.fromhex(vector["sheet"]), vector["listings"]
+        refused = listings.startswith("refused ")
+        yield f"{place}, as it is", {"sheet": vector["sheet"], "listing": listings if refused else examples.listing(sheet)}
+        for seed in () if refused else SOME_SEEDS:
+            table = examples.noisy_tables(sheet, seed)
+            if sheets.needed(sheet[:sheets.HEADER], table)[0] == 0:
+                listing = "agree " + listings.split("agree ")[seed]
+                yield f"{place}, seed {seed}", {"sheet": sheets.written(sheet[:sheets.HEADER], table).hex(), "listing": listing}
+
+
+def more_seeds(calls, listings, seeds):
+    """What follows for noisy runs: every sheet that is refused is refused there too, and a normal form has the listings of its sheet."""
+    for place, vector in [*calls, *listings]:
+        if vector.get("call", "read") == "read" and sheet_refusal(vector):
+            yield f"{place}, noisy", {"sheet": vector.get("args", vector)["sheet"], "listings": f"refused {sheet_refusal(vector)}\n"}
+    for place, vector in seeds:
+        cause, normal = sheets.rewritten(bytes.fromhex(vector["sheet"]))
+        if cause == 0:
+            yield f"{place}, in its normal form", {**vector, "sheet": normal.hex()}
 
 
 def unmarked(outcomes):
@@ -512,6 +593,19 @@ class Answering:
         return self.library.call(name, *arguments) + (self.more if name == self.name else 0)
 
 
+class Reseeding:
+    """A library that generates from another seed."""
+
+    def __init__(self, library):
+        self.library = library
+
+    def call(self, name, *arguments):
+        if name == "vembopu_generate":
+            header, seed, table = arguments
+            arguments = header, seed % 2**31 + 1, table
+        return self.library.call(name, *arguments)
+
+
 class Miscounting:
     """A library that gets one count wrong and nothing else: that of a done result, and that of an unmarked station's outcome."""
 
@@ -531,13 +625,13 @@ class Miscounting:
 
 BUFFERS = {
     "read": {"vembopu_read": 2}, "read_bit": {"vembopu_read_bit": 2}, "write": {"vembopu_sheet_len": 2, "vembopu_write": 3},
-    "exchange": {"vembopu_exchange": 3}, "rehearse": {"vembopu_rehearse": 3}, "check": {"vembopu_check": 2},
+    "generate": {"vembopu_generate": 2}, "exchange": {"vembopu_exchange": 3}, "rehearse": {"vembopu_rehearse": 3}, "check": {"vembopu_check": 2},
     "station": {"vembopu_advance": 1, "vembopu_advance_lent": 2}, "station_state": {"vembopu_advance": 1, "vembopu_advance_lent": 2},
 }
 
 ANSWERS = {
     "write": (("vembopu_sheet_len", 8), ("vembopu_sheet_len", REFUSAL), ("vembopu_write", 1), ("vembopu_write", REFUSAL)),
-    "check": (("vembopu_check", 1), ("vembopu_check", REFUSAL)),
+    "generate": (("vembopu_generate", 1), ("vembopu_generate", -1)), "check": (("vembopu_check", 1), ("vembopu_check", REFUSAL)),
     "station": (("vembopu_open", REFUSAL), ("vembopu_ballot", COUNT), ("vembopu_result", STATES), ("vembopu_advance", COUNT), ("vembopu_advance", STATES)),
     "station_state": (("vembopu_ballot", REFUSAL), ("vembopu_result", REFUSAL), ("vembopu_advance", REFUSAL), ("vembopu_advance_lent", 1)),
 }
@@ -573,7 +667,7 @@ def told(vectors, fault):
         return sum(fault(vector) is not None for _, vector in lines(path))
 
 
-def own_checks(library, calls, listings):
+def own_checks(library, calls, listings, seeds):
     """A name and whether it holds, for each check of the test itself."""
     for name in CALLS:
         yield f"there are vectors of {name}", any(vector["call"] == name for vector in calls)
@@ -593,8 +687,34 @@ def own_checks(library, calls, listings):
         wrongs = [planted(vector, ("listing",)), {**vector, "listing": vector["listing"] + "\n"}, {**vector, "listing": ""}]
         yield "a wrong listing is told", told(wrongs, lambda one: listing_fault(PROGRAM, one)) == 3
     yield "another program is told", listing_fault("false", listings[0]) is not None
+    yield from noise_checks(library, [vector for vector in calls if vector["call"] == "generate"], seeds)
     yield from rewriting_checks(library, [vector for vector in calls if vector["call"] == "read"] + listings)
     yield from auditing_checks([vector for vector in calls if vector["call"] == "check"])
+
+
+def noise_checks(library, generations, seeds):
+    """Another generator; and wrong listings of noisy runs, and other programs, on a sheet whose runs differ and one that is refused."""
+    for vector in generations:
+        if vector["want"].get("refused") == 16 or set(vector["want"].get("table", "")) > {"f"}:
+            yield f"generate: another seed is told, of {vector['args']['seed']}", call_fault(Reseeding(library), vector) is not None
+    noisy = next(one for one in seeds if len(set(one["listings"].split("agree "))) > 50)
+    refused = next(one for one in seeds if one["listings"].startswith("refused "))
+    for vector in noisy, refused:
+        for name, wrong_one in wrong_listings(vector["listings"]).items():
+            yield f"wrong listings are told: {name}", told([{**vector, "listings": wrong_one}], lambda one: listings_fault(SEEDS, one)) == 1
+    yield "other programs than seeds are told", all(listings_fault(other, noisy) is not None for other in ("false", PROGRAM, REWRITE))
+    yield "another program is told by a refusal", listings_fault("false", refused) is not None
+
+
+def wrong_listings(text):
+    """Texts that are not the listings, by what is wrong with them."""
+    first, *rest = text.split("agree ")[1:] or [text]
+    wrongs = {"nothing": "", "another last byte": wrong(text), "a line more": text + "\n", "twice": text * 2}
+    if rest:
+        parts = {"the first missing": rest, "the last missing": [first, *rest[:-1]], "one more": [first, *rest, first]}
+        parts["the first two exchanged"] = [rest[0], first, *rest[1:]]
+        wrongs |= {name: "".join("agree " + part for part in wrong_parts) for name, wrong_parts in parts.items()}
+    return wrongs
 
 
 def rewriting_checks(library, vectors):
@@ -640,45 +760,57 @@ def lines(path):
 
 
 def stored():
-    """The calls and the listings of vectors/, each with its place, and the calls that follow from them."""
-    calls, listings = (lines(VECTORS / name) for name in ("calls.jsonl", "listings.jsonl"))
-    bits = [*bit_by_bit(calls), *runs_of_bits(calls)]
-    return calls, listings, [*bits, *rehearsed([*calls, *bits])]
+    """The calls, the listings and the listings of noisy runs of vectors/, each with its place."""
+    return [lines(VECTORS / name) for name in ("calls.jsonl", "listings.jsonl", "seeds.jsonl")]
 
 
-def model_checks(calls, listings):
-    """Of the calls that the model has, and of the listings; and that wrong ones of them are told."""
-    held = [(place, vector) for place, vector in calls if vector["call"] in MODELLED] + listings
+def derived(calls, listings, seeds):
+    """The same three that follow from these."""
+    noise = [*generations(calls), *generated_runs(calls)]
+    bits = [*bit_by_bit([*calls, *noise]), *runs_of_bits([*calls, *noise])]
+    return [[*noise, *bits, *rehearsed([*calls, *noise, *bits])], [*listings_of_seeds(seeds)], [*more_seeds(calls, listings, seeds)]]
+
+
+def model_checks(calls, listings, seeds):
+    """Of the calls that the model has, and of the listings, those of noisy runs too; and that wrong ones of them are told."""
+    held = [(place, vector) for place, vector in calls if vector["call"] in MODELLED] + listings + seeds
     for place, fault in ((place, model_fault(vector)) for place, vector in held):
         yield f"vectors/{place}, by the model: {fault}", fault is None
     for vector in samples([vector for _, vector in held if "call" in vector]):
         wrongs = [planted(vector, ("want", *path)) for path in leaves(vector["want"])]
         yield f"{vector['call']}: all of {len(wrongs)} wrong answers are told by the model", told(wrongs, model_fault) == len(wrongs) > 0
     yield "a wrong listing is told by the model", model_fault(planted(listings[0][1], ("listing",))) is not None
+    yield "wrong listings of noisy runs are told by the model", model_fault(planted(seeds[0][1], ("listings",))) is not None
+
+
+def with_derived():
+    """The calls, the listings and those of noisy runs, with all that follow from them."""
+    there = stored()
+    return [[*kind, *more] for kind, more in zip(there, derived(*there))]
 
 
 def checks(library):
     """A name and whether it holds, for each check."""
-    calls, listings, derived = stored()
-    faults = [(place, call_fault(library, vector)) for place, vector in [*calls, *derived]]
+    count = collections.Counter(vector["call"] for _, vector in stored()[0])
+    (calls, listings, seeds), each = with_derived(), ", ".join(f"{name} {number}" for name, number in count.items())
+    faults = [(place, call_fault(library, vector)) for place, vector in calls]
     faults += [(place, listing_fault(PROGRAM, vector)) for place, vector in listings]
-    audits = [(place, vector) for place, vector in [*calls, *derived] if vector["call"] == "check"]
+    faults += [(place, listings_fault(SEEDS, vector)) for place, vector in seeds]
+    audits = [(place, vector) for place, vector in calls if vector["call"] == "check"]
     faults += [(f"{place}, by the program", audit_fault(audit, vector)) for place, vector in audits]
     again = [(place, vector) for place, vector in [*calls, *listings] if vector.get("call", "read") == "read"]
     faults += [(f"{place}, rewritten", rewrite_fault(library, rewrite, vector)) for place, vector in again]
-    count = collections.Counter(vector["call"] for _, vector in calls)
-    print(f"{len(calls)} calls ({', '.join(f'{name} {number}' for name, number in count.items())}) and {len(derived)} that follow from them, "
-          f"{len(listings)} listings, {len(again)} sheets rewritten, {len(audits)} logs checked")
+    print(f"{sum(count.values())} calls ({each}) and what follows from them: {len(calls)} calls, {len(listings)} listings, {len(seeds)} of noisy runs, "
+          f"{len(again)} sheets rewritten, {len(audits)} logs checked")
     for place, fault in faults:
         yield f"vectors/{place}: {fault}", fault is None
-    yield from model_checks([*calls, *derived], listings)
-    yield from own_checks(library, [vector for _, vector in [*calls, *derived]], [vector for _, vector in listings])
+    yield from model_checks(calls, listings, seeds)
+    yield from own_checks(library, *([vector for _, vector in kind] for kind in (calls, listings, seeds)))
 
 
 def main():
     if sys.argv[1:] == ["--model"]:
-        calls, listings, derived = stored()
-        return closing(model_checks([*calls, *derived], listings))
+        return closing(model_checks(*with_derived()))
     with tempfile.TemporaryDirectory() as folder:
         return closing(checks(linked(folder)))
 

@@ -8,6 +8,7 @@ use std::ops::Range;
 use crate::by_round::check_by_round;
 use crate::exchange::alone;
 use crate::ffi::{self, Handed, ReadOnly};
+use crate::generator::generate;
 use crate::line::{Cause, Header, Line, Marks, SILENCE};
 use crate::logs::Logged;
 use crate::lot::Lot;
@@ -241,6 +242,28 @@ fn written(count: usize, bad: u8, scattered: bool) -> [Nanoseconds; 3] {
     timed
 }
 
+/// Generating the tables of a number on the largest line. The floor is copying them.
+fn generated(w: u8, bad: u8) -> [Nanoseconds; 3] {
+    let (one_bit, line) = largest(bad);
+    let header = sheet::write(&Header { w, ..one_bit }, &[]);
+    let mut handed = header.clone();
+    let mut tables = [0, 1, 2, 3].map(|_| vec![0; usize::from(w) * line.table_len()]);
+    let [table, own_table, from, to] = &mut tables;
+    let timed = time_in_turn(
+        SAMPLES,
+        [
+            sample(|| {
+                let header = ReadOnly(Handed::all(black_box(&mut handed)));
+                ffi::generate(header, black_box(1), Handed::all(table))
+            }),
+            sample(|| generate(black_box(&header), black_box(1), own_table)),
+            copy(from, to),
+        ],
+    );
+    assert!(tables[0] == tables[1] && tables[0] != tables[2], "the tables differ");
+    timed
+}
+
 /// Checking a run's log. The floor is copying it.
 fn checked(n: u8, bad: u8) -> [Nanoseconds; 3] {
     let (header, line) = line_of(n, bad);
@@ -304,6 +327,9 @@ pub fn report(say: &mut impl FnMut(String)) {
         let how = if scattered { "scattered" } else { "records" };
         let name = format!("writer, n 32, {bad} marked, {count} {how}");
         say(line(&name, written(count, bad, scattered)));
+    }
+    for (w, bad) in [(1, 10), (1, 32), (MOST_BITS, 10), (MOST_BITS, 32)] {
+        say(line(&format!("generator, n 32, t 10, w {w}, {bad} marked"), generated(w, bad)));
     }
     for (n, some) in [(32, 10), (31, 10), (16, 5), (7, 2)] {
         for bad in [0, some, n] {

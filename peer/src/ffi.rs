@@ -35,6 +35,13 @@ mod exported {
             sheet: *mut u8,
             sheet_len: usize,
         ) -> u64;
+        pub fn vembopu_generate(
+            header: *const u8,
+            header_len: usize,
+            seed: u32,
+            table: *mut u8,
+            table_len: usize,
+        ) -> u8;
         pub fn vembopu_rehearse(
             n: u8,
             t: u8,
@@ -168,6 +175,13 @@ pub fn write(header: ReadOnly, table: ReadOnly, sheet: Handed) -> u64 {
     unsafe {
         exported::vembopu_write(header.start, header.len, table.start, table.len, sheet.start, sheet.len)
     }
+}
+
+/// Generates the tables of a header's bits from a seed into a lent buffer: the refusal's number.
+pub fn generate(header: ReadOnly, seed: u32, table: Handed) -> u8 {
+    let header = &header.0;
+    // SAFETY: as for `read`.
+    unsafe { exported::vembopu_generate(header.start, header.len, seed, table.start, table.len) }
 }
 
 /// Rehearses the broadcasts of a number: the refusal's number.

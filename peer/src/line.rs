@@ -14,7 +14,7 @@ pub const BLANK: u8 = 2;
 /// The byte of a station that says nothing.
 pub const SILENCE: u8 = 255;
 
-/// A cause of refusal, by the documents' numbers. They aren't given in this order: the last is right after the first.
+/// A cause of refusal, by the documents' numbers. They aren't given in this order: 15 comes right after 1, 16 right before 8.
 #[derive(Clone, Copy, PartialEq, Eq, Debug)]
 pub enum Cause {
     SheetForm = 1,
@@ -32,11 +32,12 @@ pub enum Cause {
     Repeated,
     TooManyRecords,
     Width,
+    Seed,
 }
 
 impl Cause {
     /// Every cause, lowest number first.
-    pub const ALL: [Cause; 15] = [
+    pub const ALL: [Cause; 16] = [
         Cause::SheetForm,
         Cause::StationCount,
         Cause::Thresholds,
@@ -52,6 +53,7 @@ impl Cause {
         Cause::Repeated,
         Cause::TooManyRecords,
         Cause::Width,
+        Cause::Seed,
     ];
 
     /// The documents' number.
@@ -63,8 +65,8 @@ impl Cause {
     pub fn words(self) -> &'static str {
         match self {
             Cause::SheetForm => {
-                "the sheet's length is not 12 + 8k with k from 0 to 4,096, or a header to be written is not of 12 \
-                 bytes"
+                "the sheet's length is not 12 + 8k with k from 0 to 4,096, or a header handed in by itself is not \
+                 of 12 bytes"
             }
             Cause::StationCount => "n is outside 1 to 32",
             Cause::Thresholds => "t is above T, or t + 2T is not below n",
@@ -91,6 +93,7 @@ impl Cause {
             Cause::Repeated => "an earlier record of the chain has the same bit, round, from and to",
             Cause::TooManyRecords => "more than 4,096 records are to be written",
             Cause::Width => "w is above 8",
+            Cause::Seed => "the seed is 0",
         }
     }
 }

@@ -6,13 +6,14 @@ use std::process::ExitCode;
 use peer::audit::{self, Asked};
 use peer::draw::draw;
 use peer::line::Cause;
-use peer::listing::{listing, run, Run};
+use peer::listing::{self, accepted, all_seeds, Run};
 use peer::runs::runs;
-use peer::writer::{normal_form, rewritten};
+use peer::writer::{generated_form, normal_form};
 use peer::{sheet, text};
 
 const USAGE: &str = "\
 usage: peer listing [SHEET]    the listing of a run sheet
+       peer seeds [SHEET]      the listings of the runs that seeds 1 to 100 give to a run sheet's header
        peer sheet [TEXT]       the run sheet that a text stands for
        peer text [SHEET]       a run sheet as text, in the normal form
        peer rewrite [SHEET]    a run sheet's normal form, as a sheet
@@ -25,11 +26,14 @@ usage: peer listing [SHEET]    the listing of a run sheet
                                outcomes
 A SHEET, TEXT or RUNS that isn't named, or is named -, is read from standard input. What is made goes to
 standard output.
-Exit status: 0 if it is made, 1 if the sheet or the log is refused or the text is wrong, 2 for any other trouble.
+listing, rewrite, draw, log and outcomes take --seed N: the run is then the one that seed N gives to SHEET's
+header. SHEET's records are judged and not used.
+Exit status: 0 if it is made, 1 if the sheet, the seed or the log is refused or the text is wrong, 2 for any other
+trouble.
 
 Built with the feature verified:
        peer compare [SEED] [TURNS]    the verified calls compared with this program's answers
-       peer fuzz [SEED] [TURNS] [AGREE] [REWRITE] [AUDIT]
+       peer fuzz [SEED] [TURNS] [AGREE] [REWRITE] [AUDIT] [SEEDS]
                                       the same on mutated bytes, and the programs; TURNS may be seconds: 600s
        peer bench                     how long both take";
 
@@ -51,25 +55,74 @@ fn main() -> ExitCode {
 
 /// Runs a command that makes something of a file. None where there is no such command, or nothing to read but what a person types.
 fn make(command: &str, rest: &[String]) -> Option<ExitCode> {
-    let file = match rest {
+    let (seed, rest) = match split_seed(command, rest) {
+        Ok(split) => split,
+        Err(wrong) => return Some(told(command, wrong, 2)),
+    };
+    let file = match rest[..] {
         [] if io::stdin().is_terminal() => return None,
-        [] => None,
-        [file] if file == "-" => None,
-        [file] => Some(file.as_str()),
+        [] | ["-"] => None,
+        [file] => Some(file),
         _ => return None,
     };
+    let source = Source { file, seed };
     let made = match command {
-        "listing" => make_listing(file),
+        "listing" => make_listing(&source),
+        "seeds" => make_listings(file),
         "sheet" => make_sheet(file),
         "text" => make_text(file),
-        "rewrite" => make_normal_form(file),
-        "draw" => make_drawing(file),
-        "log" => make_of_run(file, |run| run.log),
-        "outcomes" => make_of_run(file, |run| run.outcomes),
+        "rewrite" => make_normal_form(&source),
+        "draw" => make_of_run(&source, |run| draw(&run)),
+        "log" => make_of_run(&source, |run| run.log),
+        "outcomes" => make_of_run(&source, |run| run.outcomes),
         "runs" => make_runs(file),
         _ => return None,
     };
     Some(ended(command, made))
+}
+
+/// The commands that make something of a run, which may be a generated one.
+const OF_RUNS: [&str; 5] = ["listing", "rewrite", "draw", "log", "outcomes"];
+
+/// What is said where no seed comes after the option.
+const SEED_WANTED: &str = "a decimal number below 4,294,967,296 is wanted after --seed";
+
+/// Takes `--seed N` off the words after such a command.
+fn split_seed<'a>(command: &str, rest: &'a [String]) -> Result<(Option<u32>, Vec<&'a str>), &'static str> {
+    let words: Vec<&str> = rest.iter().map(String::as_str).collect();
+    match words.iter().position(|&word| word == "--seed") {
+        Some(at) if OF_RUNS.contains(&command) => {
+            let seed = words.get(at + 1).and_then(|word| seed(word)).ok_or(SEED_WANTED)?;
+            Ok((Some(seed), [&words[..at], &words[at + 2..]].concat()))
+        }
+        _ => Ok((None, words)),
+    }
+}
+
+/// A seed of digits alone.
+fn seed(word: &str) -> Option<u32> {
+    let digits = word.bytes().all(|byte| byte.is_ascii_digit());
+    word.parse().ok().filter(|_| digits)
+}
+
+/// What a run is made of: a sheet, with a seed its header alone.
+struct Source<'a> {
+    /// None for standard input.
+    file: Option<&'a str>,
+    seed: Option<u32>,
+}
+
+impl Source<'_> {
+    fn run(&self) -> Result<Result<Run, Cause>, String> {
+        let sheet = read_sheet(self.file)?;
+        Ok(self.seed.map_or_else(|| listing::run(&sheet), |seed| listing::generated(&sheet, seed)))
+    }
+
+    /// The run's sheet.
+    fn normal_form(&self) -> Result<Result<Vec<u8>, Cause>, String> {
+        let sheet = read_sheet(self.file)?;
+        Ok(self.seed.map_or_else(|| normal_form(&sheet), |seed| generated_form(&sheet, seed)))
+    }
 }
 
 /// Prints what a command has made, and says on standard error what is wrong.
@@ -95,6 +148,18 @@ impl Made {
     fn refused(refusal: String) -> Made {
         Made { bytes: vec![], refused: Some(refusal) }
     }
+
+    /// What is made of a sheet, if it isn't refused.
+    fn of_sheet(file: Option<&str>, made: Result<impl Into<Vec<u8>>, Cause>) -> Made {
+        made.map_or_else(|cause| Made::refused(refusal(file, cause)), Made::whole)
+    }
+
+    /// The same, where a refusal is printed too: one line in the place of what isn't made.
+    fn or_line(file: Option<&str>, made: Result<impl Into<Vec<u8>>, Cause>) -> Made {
+        let line = made.as_ref().err().map(|&cause| listing::refusal(cause).into_bytes());
+        let made = Made::of_sheet(file, made);
+        Made { bytes: line.unwrap_or(made.bytes), ..made }
+    }
 }
 
 /// Says on standard error why a command ends with this status.
@@ -108,8 +173,8 @@ fn told(command: &str, why: &str, status: u8) -> ExitCode {
 mod verified {
     use super::ExitCode;
     use peer::compare::Comparison;
-    use peer::fuzz::{Fuzz, Until};
-    use std::path::Path;
+    use peer::fuzz::{Fuzz, Until, PROGRAMS};
+    use std::path::{Path, PathBuf};
 
     /// The word at a place, if there is one, of at most so many.
     fn word(words: &[String], place: usize, most: usize, default: &'static str) -> Option<String> {
@@ -134,12 +199,14 @@ mod verified {
     }
 
     pub fn fuzz(words: &[String]) -> Option<ExitCode> {
-        let seed = word(words, 0, 5, "1")?.parse().ok()?;
-        let until = Until::new(&word(words, 1, 5, "20000")?)?;
-        let agree = word(words, 2, 5, "../target/bin/agree")?;
-        let rewrite = word(words, 3, 5, "../target/bin/rewrite")?;
-        let audit = word(words, 4, 5, "../target/bin/audit")?;
-        match Fuzz::new(seed, Path::new(&agree), Path::new(&rewrite), Path::new(&audit)) {
+        let most = 2 + PROGRAMS.len();
+        let seed = word(words, 0, most, "1")?.parse().ok()?;
+        let until = Until::new(&word(words, 1, most, "20000")?)?;
+        let named = words.iter().skip(2).map(Path::new);
+        let built = PROGRAMS.map(|name| Path::new("../target/bin").join(name));
+        let mut programs = built.each_ref().map(PathBuf::as_path);
+        programs.iter_mut().zip(named).for_each(|(program, named)| *program = named);
+        match Fuzz::new(seed, programs) {
             Ok(mut fuzz) => {
                 fuzz.run(until);
                 Some(ended(&fuzz.report(), fuzz.failed()))
@@ -178,10 +245,12 @@ fn usage() -> ExitCode {
     ExitCode::from(2)
 }
 
-fn make_listing(file: Option<&str>) -> Result<Made, String> {
-    let sheet = read_sheet(file)?;
-    let refused = run(&sheet).err().map(|cause| refusal(file, cause));
-    Ok(Made { bytes: listing(&sheet).into_bytes(), refused })
+fn make_listing(source: &Source) -> Result<Made, String> {
+    Ok(Made::or_line(source.file, source.run()?.map(|run| accepted(&run))))
+}
+
+fn make_listings(file: Option<&str>) -> Result<Made, String> {
+    Ok(Made::or_line(file, all_seeds(&read_sheet(file)?)))
 }
 
 fn make_sheet(file: Option<&str>) -> Result<Made, String> {
@@ -193,24 +262,16 @@ fn make_sheet(file: Option<&str>) -> Result<Made, String> {
 }
 
 fn make_text(file: Option<&str>) -> Result<Made, String> {
-    let made = text::of_sheet(&read_sheet(file)?);
-    Ok(made.map_or_else(|cause| Made::refused(refusal(file, cause)), Made::whole))
+    Ok(Made::of_sheet(file, text::of_sheet(&read_sheet(file)?)))
 }
 
-fn make_normal_form(file: Option<&str>) -> Result<Made, String> {
-    let sheet = read_sheet(file)?;
-    let refused = normal_form(&sheet).err().map(|cause| refusal(file, cause));
-    Ok(Made { bytes: rewritten(&sheet), refused })
+fn make_normal_form(source: &Source) -> Result<Made, String> {
+    Ok(Made::or_line(source.file, source.normal_form()?))
 }
 
-fn make_drawing(file: Option<&str>) -> Result<Made, String> {
-    make_of_run(file, |run| draw(&run))
-}
-
-/// What is made of a sheet's run.
-fn make_of_run<B: Into<Vec<u8>>>(file: Option<&str>, of: impl Fn(Run) -> B) -> Result<Made, String> {
-    let made = run(&read_sheet(file)?).map(of);
-    Ok(made.map_or_else(|cause| Made::refused(refusal(file, cause)), Made::whole))
+/// What is made of a run.
+fn make_of_run<B: Into<Vec<u8>>>(source: &Source, of: impl Fn(Run) -> B) -> Result<Made, String> {
+    Ok(Made::of_sheet(source.file, source.run()?.map(of)))
 }
 
 fn make_runs(file: Option<&str>) -> Result<Made, String> {

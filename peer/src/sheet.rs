@@ -54,6 +54,12 @@ pub fn header(sheet: &[u8]) -> Result<Header, Cause> {
     })
 }
 
+/// A header handed in by itself, not judged. Cause 1, which is its length alone.
+pub fn header_alone(bytes: &[u8]) -> Result<Header, Cause> {
+    require(bytes.len() == HEADER_LEN, Cause::SheetForm)?;
+    header(bytes)
+}
+
 /// The chained records' indices in chain order. Causes 9 and 10. The sheet has passed cause 1.
 fn chain(sheet: &[u8]) -> Result<Vec<usize>, Cause> {
     let k = (sheet.len() - HEADER_LEN) / RECORD_LEN;

@@ -2,6 +2,7 @@
 
 use std::mem::take;
 
+use crate::generator;
 use crate::line::{require, Cause, Line, Marks, SILENCE};
 use crate::listing::refusal;
 use crate::sheet::{self, Record, HEADER_LEN, RECORDS, RECORD_LEN};
@@ -44,8 +45,7 @@ impl Judged {
 /// Every cause of writing but the sheet buffer's length, in their order: 1, 15, 2 to 6, 8 of the tables, 14. The first
 /// index handed in is not looked at.
 fn judge(header: &[u8], tables: &[u8]) -> Result<Judged, Cause> {
-    require(header.len() == HEADER_LEN, Cause::SheetForm)?;
-    let header = sheet::header(header)?;
+    let header = sheet::header_alone(header)?;
     let (line, width) = (header.judge()?, header.width()?);
     require(tables.len() == line.tables_len(width), Cause::Length)?;
     let marks = header.marks;
@@ -106,14 +106,24 @@ fn write_row(row: &Row, next: u16, places: &mut [u8]) {
     }
 }
 
+/// The sheet of a header and its tables. The buffer has its length, so that 8 is the tables' alone.
+fn written(header: &[u8], tables: &[u8]) -> Result<Vec<u8>, Cause> {
+    let mut sheet = vec![0; sheet_len(header, tables)?];
+    write(header, tables, &mut sheet)?;
+    Ok(sheet)
+}
+
 /// The normal form of a sheet: written from its first 12 bytes and the tables that it is read to. The causes are the
 /// reader's, and 14 cannot arise.
 pub fn normal_form(bytes: &[u8]) -> Result<Vec<u8>, Cause> {
     let (_, tables) = sheet::tables(bytes)?;
-    let header = &bytes[..HEADER_LEN];
-    let mut written = vec![0; sheet_len(header, &tables)?];
-    write(header, &tables, &mut written)?;
-    Ok(written)
+    written(&bytes[..HEADER_LEN], &tables)
+}
+
+/// The sheet of the run that a seed gives to a sheet's header. The causes are the reader's, then 16, then 14.
+pub fn generated_form(bytes: &[u8], seed: u32) -> Result<Vec<u8>, Cause> {
+    let (header, _) = sheet::records(bytes)?;
+    written(&bytes[..HEADER_LEN], &generator::tables(&header, seed)?)
 }
 
 /// The normal form of a sheet, or the line of its refusal.

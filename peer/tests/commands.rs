@@ -31,6 +31,97 @@ fn listing() {
     }
 }
 
+/// Case A with seed 1: what station 4 says.
+fn case_a_generated() -> Vec<u8> {
+    let mut sheet = CASE_A.to_vec();
+    sheet.extend([1, 4, 1, 1, 0, 0, 0, 0]);
+    sheet[6] = 1;
+    peer(&["rewrite", "--seed", "1"], &sheet).1
+}
+
+/// Station 4 alone says something: 1 1 1 and silence in round 1, which is not its own. What is made of the run with a seed is
+/// what is made of its sheet.
+#[test]
+fn generated_runs() {
+    let sheet = case_a_generated();
+    assert_eq!(sheet[..12], [4, 1, 1, 1, 1, 0, 1, 0, 8, 0, 0, 0]);
+    assert_eq!(sheet[12..36], [1, 4, 1, 1, 2, 0, 0, 0, 1, 4, 2, 1, 3, 0, 0, 0, 1, 4, 3, 1, 4, 0, 0, 0]);
+    assert_eq!(sheet[36..39], [2, 4, 1]);
+    for command in ["listing", "rewrite", "log", "outcomes"] {
+        let made = peer(&[command], &sheet);
+        assert_eq!((made.0, made.2.as_str()), (0, ""));
+        for words in
+            [&[command, "--seed", "1"][..], &[command, "--seed", "001", "-"], &[command, "-", "--seed", "1"]]
+        {
+            assert_eq!(peer(words, &CASE_A), made);
+        }
+        let file = file("case-a-seed", &CASE_A);
+        assert_eq!(peer(&[command, "--seed", "1", &file], &[]), made);
+        assert_eq!(peer(&[command, &file, "--seed", "1"], &[]), made);
+    }
+    assert_ne!(peer(&["log", "--seed", "4294967295"], &CASE_A), peer(&["log", "--seed", "1"], &CASE_A));
+}
+
+/// The hundred listings begin with seed 1's and end with seed 100's; of a refused sheet there is one line.
+#[test]
+fn seeds() {
+    let (status, printed, said) = peer(&["seeds"], &CASE_A);
+    assert_eq!((status, said.as_str()), (0, ""));
+    let printed = String::from_utf8(printed).unwrap();
+    assert_eq!((printed.lines().count(), printed.matches("agree 4 1 1 1 9\n").count()), (500, 100));
+    for (seed, at) in [("1", 0), ("100", 99)] {
+        let listing: Vec<&str> = printed.lines().skip(5 * at).take(5).collect();
+        assert_eq!(peer(&["listing", "--seed", seed], &CASE_A).1, (listing.join("\n") + "\n").into_bytes());
+    }
+    let mut sheet = CASE_A;
+    sheet[6] = 1;
+    let said = "seeds: standard input: refused 9: the chain reaches an index above k\n".to_string();
+    assert_eq!(peer(&["seeds", "-"], &sheet), (1, b"refused 9\n".to_vec(), said));
+}
+
+/// Seed 0, a sheet that is refused by itself, and one whose generated run has more records than a sheet.
+#[test]
+fn refused_seeds() {
+    let mut unchained = CASE_A;
+    unchained[6] = 1;
+    let large = [32, 10, 10, 1, 1, 0, 0, 0, 255, 255, 255, 255];
+    for (command, printed) in [("listing", true), ("rewrite", true), ("draw", false), ("log", false)] {
+        for (seed, sheet, cause) in [("0", CASE_A, Cause::Seed), ("00", unchained, Cause::IndexBeyond)] {
+            let (number, words) = (cause.number(), cause.words());
+            let said = format!("{command}: standard input: refused {number}: {words}\n");
+            let line = if printed { format!("refused {number}\n") } else { String::new() };
+            assert_eq!(peer(&[command, "--seed", seed], &sheet), (1, line.into_bytes(), said));
+        }
+    }
+    let said = "rewrite: standard input: refused 14: more than 4,096 records are to be written\n".to_string();
+    assert_eq!(peer(&["rewrite", "--seed", "1"], &large), (1, b"refused 14\n".to_vec(), said));
+    assert_eq!(peer(&["listing", "--seed", "1"], &large).0, 0);
+}
+
+/// What is no decimal number below 2 to the power 32, and commands without the option.
+#[test]
+fn wrong_seeds() {
+    for command in ["listing", "rewrite", "draw", "log", "outcomes"] {
+        let said = format!("{command}: a decimal number below 4,294,967,296 is wanted after --seed\n");
+        for seed in ["4294967296", "99999999999999999999", "-1", "+1", "", " 1", "1.0", "0x1", "x", "--seed"]
+        {
+            assert_eq!(peer(&[command, "--seed", seed], &CASE_A), (2, vec![], said.clone()), "{seed}");
+        }
+        assert_eq!(peer(&[command, "--seed"], &CASE_A), (2, vec![], said));
+    }
+    for words in [
+        &["draw", "--seed", "1", "--seed", "2"][..],
+        &["draw", "--seed", "1", "a", "b"],
+        &["seeds", "--seed", "1"],
+        &["text", "--seed", "1"],
+        &["runs", "--seed", "1"],
+    ] {
+        let (status, printed, said) = peer(words, &CASE_A);
+        assert_eq!((status, printed), (2, vec![]));
+        assert!(said.starts_with("usage: peer listing"));
+    }
+}
+
 /// Case A with a record of silence and one outside the chain, and what is refused of it.
 #[test]
 fn rewrite() {
@@ -125,6 +216,9 @@ fn a_drawing() {
     let (status, drawing, said) = peer(&["draw"], &CASE_A);
     assert_eq!((status, said.as_str()), (0, ""));
     assert!(drawing.starts_with(b"<svg ") && drawing.ends_with(b"</svg>\n"));
+    let (status, generated, said) = peer(&["draw", "--seed", "7"], &CASE_A);
+    assert_eq!((status, said.as_str()), (0, ""));
+    assert!(String::from_utf8(generated).unwrap().contains("generated from seed 7"));
 }
 
 /// Case A's log and outcomes.
@@ -247,7 +341,7 @@ fn files() {
 /// A failed read is no sheet: a folder can be opened and not read.
 #[test]
 fn what_cannot_be_read_or_written() {
-    for command in ["listing", "sheet", "text", "rewrite", "draw", "log", "outcomes", "runs"] {
+    for command in ["listing", "seeds", "sheet", "text", "rewrite", "draw", "log", "outcomes", "runs"] {
         let (status, printed, said) = peer(&[command, env!("CARGO_TARGET_TMPDIR")], &[]);
         assert_eq!((status, printed), (2, vec![]));
         assert!(said.starts_with(&format!("{command}: ")) && said.ends_with("(os error 21)\n"));
@@ -285,7 +379,7 @@ fn commands_that_are_not_built() {
 #[cfg(feature = "verified")]
 const FUZZED: &str = "1000";
 
-/// Seed 7 and so many turns of a command that compares fifteen calls: all pass, without a difference.
+/// Seed 7 and so many turns of a command that compares seventeen calls: all pass, without a difference.
 #[cfg(feature = "verified")]
 fn finds_no_difference(command: &str, turns: &str) {
     let (status, printed, said) = peer(&[command, "7", turns], &[]);
@@ -294,7 +388,7 @@ fn finds_no_difference(command: &str, turns: &str) {
     let printed = String::from_utf8(printed).unwrap();
     assert!(
         printed.starts_with(&format!("seed 7, {turns} turns; "))
-            && printed.ends_with("\n15 passed, 0 failed\n")
+            && printed.ends_with("\n17 passed, 0 failed\n")
     );
 }
 
@@ -311,7 +405,7 @@ fn comparing() {
 #[test]
 fn fuzzing() {
     finds_no_difference("fuzz", FUZZED);
-    for words in [&["fuzz", "x"][..], &["fuzz", "1", "2m"], &["fuzz", "1", "1", "a", "b", "c", "d"]] {
+    for words in [&["fuzz", "x"][..], &["fuzz", "1", "2m"], &["fuzz", "1", "1", "a", "b", "c", "d", "e"]] {
         assert_eq!(peer(words, &[]).0, 2);
     }
     for (words, name) in programs("nowhere") {
@@ -322,9 +416,10 @@ fn fuzzing() {
 
 /// This file for each program in turn, those before it as they are built; and the program's name.
 #[cfg(feature = "verified")]
-fn programs(file: &str) -> [(Vec<&str>, &'static str); 3] {
-    let [agree, rewrite] = ["../target/bin/agree", "../target/bin/rewrite"];
-    [(vec![file], "agree"), (vec![agree, file], "rewrite"), (vec![agree, rewrite, file], "audit")]
+fn programs(file: &str) -> [(Vec<&str>, &'static str); 4] {
+    let built = ["../target/bin/agree", "../target/bin/rewrite", "../target/bin/audit"];
+    let place = |at: usize| [&built[..at], &[file]].concat();
+    [(place(0), "agree"), (place(1), "rewrite"), (place(2), "audit"), (place(3), "seeds")]
 }
 
 /// A program that prints none of what is wanted stands for each program: this one, which wants a command.
@@ -335,7 +430,7 @@ fn fuzzing_a_wrong_program() {
     for (words, name) in programs(wrong) {
         let (status, printed, said) = peer(&[&["fuzz", "7", FUZZED], &words[..]].concat(), &[]);
         let printed = String::from_utf8(printed).unwrap();
-        assert!(status == 1 && printed.ends_with(" inputs with a difference\n14 passed, 1 failed\n"));
+        assert!(status == 1 && printed.ends_with(" inputs with a difference\n16 passed, 1 failed\n"));
         let exit = format!("{name}: exit status: 2, on standard error ");
         for words in [&exit, " bytes\n", "to repeat: peer fuzz 7 "] {
             assert!(said.contains(words));

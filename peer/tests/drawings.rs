@@ -355,6 +355,35 @@ fn a_bad_senders_value_is_not_shown() {
     assert!(bad > 10 && good > 10);
 }
 
+/// A generated run is drawn as any other with its tables, but that its title and a line in grey below the line's numbers tell its seed.
+#[test]
+fn a_generated_run_tells_its_seed() {
+    let mut lot = Lot(48);
+    for seed in [1, 100, u32::MAX] {
+        for n in [1, 4, 17, 32] {
+            let by_lot = header_by_lot(&mut lot, n);
+            let header = if n < 17 { lot.numbered(&by_lot) } else { by_lot };
+            let run = Run::generated(header, seed).unwrap();
+            let (svg, other) = (draw(&run), draw(&Run { seed: None, ..run }));
+            well_formed(&svg);
+            let [generated, other_shown] = [&svg, &other].map(|svg| shown(svg));
+            texts_stand_clear(&generated);
+            assert!(generated.texts.iter().all(|text| on_one_page(&text.area)), "n {n}");
+            let line = format!("The run is generated from seed {seed}, which decides what bad stations say.");
+            let told: Vec<&Text> = generated.texts.iter().filter(|text| text.words == line).collect();
+            let [told] = told[..] else { panic!("{line}") };
+            assert!(told.colour != "#000000" && told.area.1 < 60.0);
+            let words =
+                |shown: &Shown| shown.texts.iter().map(|text| text.words.to_string()).collect::<Vec<_>>();
+            let mut expected = words(&generated);
+            expected.retain(|words| *words != line);
+            assert_eq!(words(&other_shown), expected);
+            assert!(svg.contains(&format!("<title>A rehearsal generated from seed {seed}: what came out, ")));
+            assert!(other.contains("<title>A rehearsal: what came out, ") && !other.contains("generated"));
+        }
+    }
+}
+
 /// Where a page of A4 ends, printed 190 mm wide and 277 mm high.
 const PAGE: f64 = 1000.0 * 277.0 / 190.0;
 

@@ -6,6 +6,7 @@ use common::Lot;
 use peer::by_round::check_by_round;
 use peer::check::check;
 use peer::exchange::alone;
+use peer::generator::generate;
 use peer::line::{Cause, Header, Line, Marks, LARGEST_TABLE};
 use peer::outcome::OUTCOME;
 use peer::rehearsal::rehearse;
@@ -104,38 +105,47 @@ fn records(n: u8, marks: u32, table: &[u8]) -> usize {
     table.iter().enumerate().filter(said).count()
 }
 
-/// The causes stand in the order in which they are judged, and the first that holds is given: 8 for the table comes before 14,
-/// 8 for the sheet after it.
+/// The first cause that holds, of causes in the order in which they are judged; 0 if none does.
+fn first(causes: &[(u8, bool)]) -> u8 {
+    causes.iter().find(|(_, holds)| *holds).map_or(0, |(cause, _)| *cause)
+}
+
+/// A header handed in by itself, its bytes often near the edge of what is allowed and now and then too many or too few, with any
+/// first index; how many bytes its tables have, and its causes in their order.
+fn edge_header(lot: &mut Lot) -> (Header, Vec<u8>, usize, Vec<(u8, bool)>) {
+    let (n, t, upper) = lot.edge_numbers();
+    let sender = lot.pick(&[1, 1, n, n, 0, n.wrapping_add(1)]);
+    let (w, value) = edge_number(lot, n);
+    let marks = lot.edge_marks(n);
+    let header = Header { n, t, upper, sender, value, w, marks: Marks(marks) };
+    let mut bytes = sheet::write(&header, &[]);
+    bytes[6..8].copy_from_slice(&lot.word().to_le_bytes()[..2]);
+    bytes.resize(lot.near(12), 0);
+    let (exact, _) = lengths(n, t, bits(w) * (3 * usize::from(t) + 6));
+    let causes = vec![
+        (1, bytes.len() != 12),
+        (15, w > 8),
+        (2, no_stations(n)),
+        (3, no_thresholds(n, t, upper)),
+        (4, sender == 0 || sender > n),
+        (5, no_number(w, value)),
+        (6, mark_beyond(n, marks)),
+    ];
+    (header, bytes, exact, causes)
+}
+
+/// 8 for the table comes before 14, 8 for the sheet after it.
 #[test]
 fn writing() {
     let mut lot = Lot(5);
     let mut seen = [0; 17];
     for _ in 0..20_000 {
-        let (n, t, upper) = lot.edge_numbers();
-        let sender = lot.pick(&[1, 1, n, n, 0, n.wrapping_add(1)]);
-        let (w, value) = edge_number(&mut lot, n);
-        let marks = lot.edge_marks(n);
-        let mut header = sheet::write(&Header { n, t, upper, sender, value, w, marks: Marks(marks) }, &[]);
-        header[6..8].copy_from_slice(&lot.word().to_le_bytes()[..2]);
-        header.resize(lot.near(12), 0);
-        let (exact, _) = lengths(n, t, bits(w) * (3 * usize::from(t) + 6));
+        let (Header { n, marks, .. }, header, exact, mut causes) = edge_header(&mut lot);
         let table = vec![lot.pick(&[0, 1, 254, 255]); lot.near(exact)];
-        let k = if no_stations(n) { 0 } else { records(n, marks, &table) };
+        let k = if no_stations(n) { 0 } else { records(n, marks.0, &table) };
         let mut sheet = vec![99; lot.near(12 + 8 * k)];
-        let before_buffer = [
-            (1, header.len() != 12),
-            (15, w > 8),
-            (2, no_stations(n)),
-            (3, no_thresholds(n, t, upper)),
-            (4, sender == 0 || sender > n),
-            (5, no_number(w, value)),
-            (6, mark_beyond(n, marks)),
-            (8, table.len() != exact),
-            (14, k > 4_096),
-        ];
-        let first =
-            |causes: &[(u8, bool)]| causes.iter().find(|(_, holds)| *holds).map_or(0, |(cause, _)| *cause);
-        let needed = first(&before_buffer);
+        causes.extend([(8, table.len() != exact), (14, k > 4_096)]);
+        let needed = first(&causes);
         let expected = if needed != 0 { needed } else { first(&[(8, sheet.len() != 12 + 8 * k)]) };
         assert_eq!(code(writer::sheet_len(&header, &table)), needed, "{header:?}");
         assert_eq!(code(writer::write(&header, &table, &mut sheet)), expected, "{header:?}");
@@ -144,6 +154,24 @@ fn writing() {
         seen[if needed == expected { usize::from(expected) } else { 16 }] += 1;
     }
     assert!([0, 1, 2, 3, 4, 5, 6, 8, 14, 15, 16].iter().all(|&cause: &usize| seen[cause] > 20), "{seen:?}");
+}
+
+/// "Seed zero is refused by 16, after the header's causes and before 8."
+#[test]
+fn generating() {
+    let mut lot = Lot(7);
+    let mut seen = [0; 17];
+    for _ in 0..20_000 {
+        let (_, header, exact, mut causes) = edge_header(&mut lot);
+        let mut table = vec![99; lot.near(exact)];
+        let seed = lot.pick(&[0, 1, 1 << 31, u32::MAX]);
+        causes.extend([(16, seed == 0), (8, table.len() != exact)]);
+        let expected = first(&causes);
+        assert_eq!(code(generate(&header, seed, &mut table)), expected, "{header:?} {seed}");
+        assert!(table.iter().all(|&byte| byte == 99) == (expected != 0), "{header:?} {seed}");
+        seen[usize::from(expected)] += 1;
+    }
+    assert!([0, 1, 2, 3, 4, 5, 6, 8, 15, 16].iter().all(|&cause: &usize| seen[cause] > 20), "{seen:?}");
 }
 
 #[test]

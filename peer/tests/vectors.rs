@@ -2,13 +2,14 @@
 
 mod json;
 
-use std::collections::BTreeSet;
+use std::collections::BTreeMap;
 
 use json::Value;
 use peer::check::check;
 use peer::exchange::alone;
+use peer::generator;
 use peer::line::{Cause, Header, Marks};
-use peer::listing::listing;
+use peer::listing::{listing, listings};
 use peer::rehearsal::rehearse;
 use peer::sheet;
 use peer::station::{Answer, Station};
@@ -16,6 +17,7 @@ use peer::writer;
 
 const CALLS: &str = include_str!("../../vectors/calls.jsonl");
 const LISTINGS: &str = include_str!("../../vectors/listings.jsonl");
+const SEEDS: &str = include_str!("../../vectors/seeds.jsonl");
 
 fn refused(cause: Cause) -> Value {
     Value::object([("refused", Value::Number(cause.number().into()))])
@@ -60,6 +62,17 @@ fn write(args: &Value) -> Value {
             let of_buffer = needed.is_ok_and(|needed| needed != sheet.len()) && cause == Cause::Length;
             assert!(needed == Err(cause) || of_buffer, "{needed:?}, then {cause:?}");
             untouched(&[&sheet]);
+            refused(cause)
+        }
+    }
+}
+
+fn generate(args: &Value) -> Value {
+    let mut table = lent(args, "table_len");
+    match generator::generate(&args.at("header").bytes(), args.number("seed"), &mut table) {
+        Ok(()) => Value::object([("table", Value::hex(&table))]),
+        Err(cause) => {
+            untouched(&[&table]);
             refused(cause)
         }
     }
@@ -145,6 +158,7 @@ fn made(call: &str, args: &Value) -> Value {
     match call {
         "read" => read(args),
         "write" => write(args),
+        "generate" => generate(args),
         "check" => checked(args),
         "exchange" => exchange(args),
         "rehearse" => rehearsal(args),
@@ -157,25 +171,35 @@ fn made(call: &str, args: &Value) -> Value {
 #[test]
 fn calls() {
     let vectors: Vec<Value> = CALLS.lines().map(Value::of).collect();
+    let mut used: BTreeMap<&str, usize> = BTreeMap::new();
     for (vector, number) in vectors.iter().zip(1..) {
-        let made = made(vector.text("call"), vector.at("args"));
-        assert_eq!(&made, vector.at("want"), "calls.jsonl, line {number}");
+        let call = vector.text("call");
+        assert_eq!(&made(call, vector.at("args")), vector.at("want"), "calls.jsonl, line {number}");
+        *used.entry(call).or_default() += 1;
     }
-    let names: BTreeSet<&str> = vectors.iter().map(|vector| vector.text("call")).collect();
-    assert_eq!(names.len(), 7, "a call has no vector: {names:?}");
+    assert_eq!(used.values().sum::<usize>(), CALLS.lines().count(), "{used:?}");
+    assert_eq!(used.len(), 8, "a call has no vector: {used:?}");
+}
+
+/// Compares what is printed of the sheet of each line with what the line has under this name.
+fn printed(name: &str, file: &str, lines: &str, of_sheet: fn(&[u8]) -> String) {
+    let mut used = 0;
+    for (line, number) in lines.lines().zip(1..) {
+        let vector = Value::of(line);
+        assert_eq!(of_sheet(&vector.at("sheet").bytes()), vector.text(name), "{file}, line {number}");
+        used += 1;
+    }
+    assert!(used > 0 && used == lines.lines().count());
 }
 
 #[test]
-fn listings() {
-    for (line, number) in LISTINGS.lines().zip(1..) {
-        let vector = Value::of(line);
-        assert_eq!(
-            listing(&vector.at("sheet").bytes()),
-            vector.text("listing"),
-            "listings.jsonl, line {number}"
-        );
-    }
-    assert!(!LISTINGS.is_empty());
+fn sheets_listed() {
+    printed("listing", "listings.jsonl", LISTINGS, listing);
+}
+
+#[test]
+fn sheets_with_seeds() {
+    printed("listings", "seeds.jsonl", SEEDS, listings);
 }
 
 /// What the vectors are held by tells values apart.

@@ -1,6 +1,7 @@
 //! The verified implementation's calls compared with this one's answers, on inputs drawn by lot.
 
 pub(crate) mod checker;
+pub(crate) mod generator;
 pub(crate) mod input;
 pub(crate) mod lent;
 pub(crate) mod lines;
@@ -35,12 +36,14 @@ const fn call(
     Call { name, inputs, numbers, compare }
 }
 
-const CALLS: [Call; 15] = [
+const CALLS: [Call; 17] = [
     call("read", 4, &reader::NUMBERS, reader::read),
     call("read_bit", 1, &reader::NUMBERS, reader::read_bit),
     call("sheet_len", 1, &writer::NUMBERS, writer::sheet_len),
     call("write", 1, &writer::NUMBERS, writer::write),
     call("read back", 1, &[0], writer::read_back),
+    call("generate", 2, &generator::NUMBERS, generator::generate),
+    call("generated back", 1, &[0], generator::generated_back),
     call("rehearse", 2, &lines::REHEARSE, lines::rehearse),
     call("check", 2, &checker::NUMBERS, checker::check),
     call("marks back", 1, &[0], checker::marks_back),
@@ -114,6 +117,8 @@ mod tests {
                 "read" | "read_bit" => &["the sheet"],
                 "sheet_len" | "write" => &["the table", "the header"],
                 "read back" => &["the table", "the header", "the sheet"],
+                "generate" => &["the header"],
+                "generated back" => &["the header", "the table", "the header"],
                 "rehearse" => &["the table"],
                 "check" => &["the outcomes", "the log"],
                 "marks back" => &["the table", "the outcomes", "the log"],

@@ -4,8 +4,8 @@ use std::fmt::Write;
 
 use crate::line::Cause;
 
-/// The numbers of an answer: 0 where nothing is refused, 1 to 15 a cause.
-const NUMBERS: usize = 1 + Cause::ALL.len();
+/// The numbers of an answer: 0 where nothing is refused, 1 to 16 a cause.
+pub const NUMBERS: usize = 1 + Cause::ALL.len();
 /// So many differences of a call are shown, the others counted.
 const SHOWN: u64 = 2;
 
@@ -67,7 +67,7 @@ pub fn faults(all: &[Found], enough: bool) -> Vec<String> {
 pub fn table(all: &[Found]) -> String {
     let mut text = String::new();
     let mut line = |name: &str, inputs: &str, rest: &str| {
-        writeln!(text, "{name:<13}{inputs:>9}{rest}").expect("a string takes any text");
+        writeln!(text, "{name:<15}{inputs:>9}{rest}").expect("a string takes any text");
     };
     let head = (0..NUMBERS).map(|number| format!("{number:>8}")).collect::<String>();
     line("call", "inputs", &head);

@@ -24,7 +24,7 @@ pub fn most(lot: &mut Lot) -> u8 {
 }
 
 /// A header's bytes. The first index, which isn't looked at, is any.
-fn header_bytes(lot: &mut Lot, header: &Header) -> Vec<u8> {
+pub fn header_bytes(lot: &mut Lot, header: &Header) -> Vec<u8> {
     let mut bytes = sheet::write(header, &[]);
     let any = lot.word() as u16;
     let index = lot.pick(&[0, 1, 2, 4_096, 4_097, any]);
@@ -33,7 +33,7 @@ fn header_bytes(lot: &mut Lot, header: &Header) -> Vec<u8> {
 }
 
 /// Now and then other bytes than a header has: fewer, more, or another w.
-fn spoil(lot: &mut Lot, header: &mut Vec<u8>) {
+pub fn spoil(lot: &mut Lot, header: &mut Vec<u8>) {
     let byte = lot.byte();
     if lot.one_in(16) {
         let any = lot.below(40) as usize;
@@ -180,13 +180,13 @@ pub fn read_back(lot: &mut Lot) -> Compared {
         }
     };
     let lent = [len, table.len(), len].map(|len| Lent::new(lot, len));
-    let fault = not_read_back(&header, &table, lent);
+    let fault = not_read_back(&header, &table, &silenced(&header, &table), lent);
     let told = |what: String| Told::new(&what).bytes("header", &header).bytes("table", &table).text();
     Compared { number: 0, difference: fault.map(told) }
 }
 
-/// What is wrong with what is read back or rewritten, if anything is.
-fn not_read_back(header: &[u8], table: &[u8], lent: [Lent; 3]) -> Option<String> {
+/// What is wrong with what is read back, beside the tables wanted, or rewritten, if anything is.
+pub fn not_read_back(header: &[u8], table: &[u8], wanted: &[u8], lent: [Lent; 3]) -> Option<String> {
     let [mut sheet, mut back, mut again] = lent;
     let mut read = reading(header, table);
     let [first, second] = read.each_mut().map(Reading::handed);
@@ -197,7 +197,7 @@ fn not_read_back(header: &[u8], table: &[u8], lent: [Lent; 3]) -> Option<String>
     if let Some(changed) = fault(false, &[], &[first, second, &written]) {
         return Some(changed);
     }
-    if refused != 0 || back.bytes() != silenced(header, table) {
+    if refused != 0 || back.bytes() != wanted {
         return Some(format!("another table is read back, or refused by {refused}"));
     }
     let [mut first, mut second] = reading(&sheet.bytes()[..HEADER_LEN], back.bytes());

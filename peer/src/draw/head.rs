@@ -18,6 +18,11 @@ pub fn head(svg: &mut Svg, run: &Run) -> i32 {
     let verdict = Verdict::of(run);
     let mut y = MARGIN;
     y = paragraph(svg, (MARGIN, y), BODY.grey(), &numbers(run));
+    if let Some(seed) = run.seed {
+        let generated =
+            format!("The run is generated from seed {seed}, which decides what bad stations say.");
+        y = paragraph(svg, (MARGIN, y), BODY.grey(), &generated);
+    }
     y = paragraph(svg, (MARGIN, y + 8), VERDICT, &verdict.outcome());
     y = paragraph(svg, (MARGIN, y + 4), BODY, &verdict.sender());
     y = paragraph(svg, (MARGIN, y), BODY, &verdict.promise());

@@ -161,5 +161,7 @@ pub fn draw(run: &Run) -> String {
         drawing.rounds();
         (svg, end) = (drawing.svg, drawing.layout.end());
     }
-    svg.finish((WIDTH, end + MARGIN - BELOW), "A rehearsal: what came out, and each round")
+    let seed = run.seed.map_or(String::new(), |seed| format!(" generated from seed {seed}"));
+    let title = format!("A rehearsal{seed}: what came out, and each round");
+    svg.finish((WIDTH, end + MARGIN - BELOW), &title)
 }

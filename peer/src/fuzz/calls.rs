@@ -1,12 +1,12 @@
 //! What an input is to each call: its first bytes the numbers, the others its row, inputs or table. Numbers that
 //! an input is too short for are 0. The lengths of lent buffers are drawn, mostly the right ones.
 
-use super::features::{bits, features, of_ballot, of_broken, of_outcomes};
+use super::features::{bits, features, of_ballot, of_broken, of_generated, of_outcomes};
 use super::features::{of_refused, of_result, of_row, of_sheet};
 use super::pool::{Features, Shape};
 use crate::compare::lent::Lending;
 use crate::compare::report::Compared;
-use crate::compare::{checker, lines, reader, stations, writer};
+use crate::compare::{checker, generator, lines, reader, stations, writer};
 use crate::line::{Cause, Header, Marks, SILENCE};
 use crate::logs::Logged;
 use crate::lot::{widest_short, Lot};
@@ -53,6 +53,7 @@ pub fn linked() -> Vec<Call> {
         Call::new("read_bit", Shape::Sheet, 4, &reader::NUMBERS, read_bit),
         Call::new("sheet_len", Shape::Line, 16, &writer::NUMBERS, sheet_len),
         Call::new("write", Shape::Line, 8, &writer::NUMBERS, write),
+        Call::new("generate", Shape::Line, 8, &generator::NUMBERS, generate),
         Call::new("rehearse", Shape::Line, 1, &lines::REHEARSE, rehearse),
         Call::new("check", Shape::Line, 8, &checker::NUMBERS, check),
         Call::new("exchange", Shape::Line, 1, &lines::EXCHANGE, exchange),
@@ -180,14 +181,19 @@ fn tables_of(lot: &mut Lot, input: &[u8], header: &Header, len: usize) -> Vec<u8
     read.unwrap_or_else(|| stretched(rest(input, HEADER_LEN), len))
 }
 
-/// A header to be written, mostly of its length, and its tables.
+/// A header handed in by itself, with this one's number, mostly of its length.
+fn header_alone(lot: &mut Lot, input: &[u8], header: &Header) -> Vec<u8> {
+    let len = lines::len(lot, HEADER_LEN);
+    let mut bytes = stretched(input, len);
+    put_number(&mut bytes, header);
+    bytes
+}
+
+/// A header to be written and its tables.
 fn header_and_tables(lot: &mut Lot, input: &[u8]) -> (Vec<u8>, Vec<u8>) {
     let header = number(lot, input);
     let tables = tables(lot, input, &header);
-    let len = lines::len(lot, HEADER_LEN);
-    let mut bytes = stretched(input, len);
-    put_number(&mut bytes, &header);
-    (bytes, tables)
+    (header_alone(lot, input, &header), tables)
 }
 
 fn sheet_len(lot: &mut Lot, input: &[u8]) -> Tried {
@@ -207,6 +213,18 @@ fn write(lot: &mut Lot, input: &[u8]) -> Tried {
     let compared = writer::write_into(&header, &table, &mut sheet);
     let accepted = compared.number == 0;
     tried(compared, n, accepted.then(|| of_sheet(sheet.ours.bytes())))
+}
+
+/// Tables of the header and a seed: the four bytes after it, or any.
+fn generate(lot: &mut Lot, input: &[u8]) -> Tried {
+    let told = number(lot, input);
+    let bytes = header_alone(lot, input, &told);
+    let after = u32::from_le_bytes(first(rest(input, HEADER_LEN)));
+    let seed = if lot.one_in(2) { after } else { generator::seed(lot) };
+    let len = generator::tables_len(lot, &bytes);
+    let compared = generator::generate_into(&bytes, seed, &mut Lending::new(lot, "the table", len));
+    let accepted = compared.number == 0;
+    tried(compared, told.n, accepted.then(|| of_generated(&header(&bytes), seed)))
 }
 
 /// A run of the header's line.
@@ -355,7 +373,7 @@ mod tests {
         let found: Vec<Vec<&str>> = linked().into_iter().map(found).collect();
         let (row, table) = (vec!["the row"], vec!["the table"]);
         let (sheet, written) = (vec!["the sheet"], vec!["the table", "the header"]);
-        let read = [sheet.clone(), sheet, written.clone(), written, table];
+        let read = [sheet.clone(), sheet, written.clone(), written, vec!["the header"], table];
         let lines = [vec!["the outcomes", "the log"], vec!["the table", "the inputs"]];
         let stations = [vec![], vec![], row.clone(), row, vec![]];
         assert_eq!(found, [&read[..], &lines, &stations].concat());
@@ -403,11 +421,13 @@ mod tests {
             all.iter().map(|compared| compared.number).collect::<Vec<u8>>()
         };
         let seeds = 0..40;
-        assert!(seeds.clone().any(|seed| numbers(sheet, seed) == [0, 0, 0, 0, 0, 0, 0, 0, 7, 7, 7, 7]));
+        assert!(seeds.clone().any(|seed| numbers(sheet, seed) == [0, 0, 0, 0, 0, 0, 0, 0, 0, 7, 7, 7, 7]));
         assert!(seeds.clone().any(|seed| numbers(sheet, seed)[2..4] == [0, 8]));
-        assert!((0..400).any(|seed| numbers(sheet, seed)[5] == 8));
-        assert!(seeds.clone().any(|seed| numbers(&opened, seed)[7..] == [0, 0, 0, 0, 0]));
-        assert!(seeds.clone().any(|seed| numbers(&opened, seed)[9..11] == [8, 8]));
+        // no byte is left for a seed
+        assert!(seeds.clone().any(|seed| numbers(sheet, seed)[4] == 16));
+        assert!((0..400).any(|seed| numbers(sheet, seed)[6] == 8));
+        assert!(seeds.clone().any(|seed| numbers(&opened, seed)[8..] == [0, 0, 0, 0, 0]));
+        assert!(seeds.clone().any(|seed| numbers(&opened, seed)[10..12] == [8, 8]));
     }
 
     /// A width that makes long tables is seldom kept, one that is refused now and then; the number is one of the width.

@@ -73,6 +73,13 @@ pub fn of_outcomes(line: &Line, w: u8, marks: Marks, outcomes: &[u8]) -> Feature
     features(&[n, t, beside(line, marks), kinds, counts, w, decided])
 }
 
+/// Of tables that are generated: their line, how many stations are marked, how many bits the number has, how many bytes the seed.
+pub fn of_generated(header: &Header, seed: u32) -> Features {
+    let Header { n, t, w, marks, .. } = *header;
+    let [n, t, marked, w] = [n.into(), t.into(), marks.count() as usize, w.into()].map(bits);
+    features(&[n, t, marked, w, bits(seed as usize).div_ceil(8)])
+}
+
 /// Of a log that is checked: its line, how many stations broke the rules, whether the sender did.
 pub fn of_broken(line: &Line, sender: u8, broke: Marks) -> Features {
     let many = bits(broke.count() as usize);
@@ -149,6 +156,14 @@ mod tests {
         let mut of_number = sheet(1, &[2, 3, 0]);
         of_number[5] = 3;
         assert_eq!(of_sheet(&of_number), [0, 3, 1, 2, 8, 1, 2, 2]);
+    }
+
+    #[test]
+    fn generated_tables() {
+        let header = Header { n: 32, t: 10, upper: 10, sender: 1, value: 1, w: 8, marks: Marks(0xffc0_0000) };
+        let told = [1, 255, 256, u32::MAX].map(|seed| of_generated(&header, seed));
+        assert_eq!(told.map(|told| told[4]), [1, 1, 2, 4]);
+        assert_eq!(told[0][..4], [6, 4, 4, 4]);
     }
 
     #[test]

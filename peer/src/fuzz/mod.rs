@@ -20,6 +20,8 @@ use calls::Call;
 use pool::Pool;
 use seeds::SEEDS;
 
+/// The names of the programs that are given inputs too.
+pub const PROGRAMS: [&str; 4] = ["agree", "rewrite", "audit", "seeds"];
 /// So many turns must have brought every number that a call can answer.
 const ENOUGH: u64 = 200_000;
 /// The time between two lines of progress.
@@ -59,12 +61,13 @@ pub struct Fuzz {
 }
 
 impl Fuzz {
-    /// Every exported call, and the programs `agree`, `rewrite` and `audit`. An error where a program isn't there.
-    pub fn new(seed: u64, agree: &Path, rewrite: &Path, audit: &Path) -> Result<Fuzz, String> {
+    /// Every exported call, and the programs in the order of [`PROGRAMS`]. An error where one isn't there.
+    pub fn new(seed: u64, [agree, rewrite, audit, seeds]: [&Path; 4]) -> Result<Fuzz, String> {
         let mut calls = calls::linked();
         calls.push(program::agree(agree)?);
         calls.push(program::rewrite(rewrite)?);
         calls.push(audit::audit(audit)?);
+        calls.push(program::seeds(seeds)?);
         Ok(Fuzz::of(seed, calls, &SEEDS))
     }
 
@@ -137,7 +140,7 @@ mod tests {
     use super::*;
     use crate::compare::lent::{difference, Lending, Lent, Reading};
     use crate::compare::reader;
-    use crate::compare::report::Compared;
+    use crate::compare::report::{Compared, NUMBERS};
     use crate::line::Cause;
     use crate::sheet;
     use std::cell::RefCell;
@@ -170,7 +173,7 @@ mod tests {
     }
 
     /// This implementation's reader stands for the verified one too. Each answer is counted here as well.
-    fn itself(counts: &Rc<RefCell<[u64; 16]>>) -> Call {
+    fn itself(counts: &Rc<RefCell<[u64; NUMBERS]>>) -> Call {
         let counts = counts.clone();
         Call::new("itself", Shape::Sheet, 1, &reader::NUMBERS, move |lot, input| {
             let len = reader::tables_len(lot, input);
@@ -185,7 +188,7 @@ mod tests {
 
     #[test]
     fn nothing_is_found_where_nothing_differs() {
-        let counts = Rc::new(RefCell::new([0; 16]));
+        let counts = Rc::new(RefCell::new([0; NUMBERS]));
         let mut fuzz = Fuzz::of(1, vec![itself(&counts)], &SEEDS);
         fuzz.run(Until::Turns(5_000));
         let report = fuzz.report();

@@ -1,4 +1,5 @@
-//! The programs `agree` and `rewrite`: a sheet on standard input, its listing or its normal form on standard output.
+//! The programs `agree`, `rewrite` and `seeds`: a sheet on standard input; its listing, its normal form or the listings of its
+//! header with seeds on standard output.
 
 use std::io::Write;
 use std::path::{Path, PathBuf};
@@ -10,12 +11,12 @@ use super::pool::Shape;
 use crate::compare::input::Told;
 use crate::compare::report::Compared;
 use crate::line::Cause;
-use crate::listing::listing;
+use crate::listing::{listing, listings};
 use crate::lot::Lot;
-use crate::sheet::records;
+use crate::sheet::{records, write, RECORDS};
 use crate::writer::rewritten;
 
-/// The numbers that both programs can tell: the reader's without a lent table.
+/// The numbers that the programs can tell: the reader's without a lent table.
 const NUMBERS: [u8; 13] = [0, 1, 2, 3, 4, 5, 6, 9, 10, 11, 12, 13, 15];
 
 /// The sheet that an input is to a program.
@@ -32,6 +33,30 @@ pub fn agree(program: &Path) -> Result<Call, String> {
 
 pub fn rewrite(program: &Path) -> Result<Call, String> {
     call("rewrite", program, 64, sheet, rewritten)
+}
+
+/// It makes a hundred listings of an input, so it is given the fewest. Half of the chains have a repeated record, which would
+/// hardly come among so few.
+pub fn seeds(program: &Path) -> Result<Call, String> {
+    let drawn = |lot: &mut Lot, input: &[u8]| {
+        let sheet = sheet(lot, input);
+        if lot.one_in(2) {
+            repeated(sheet)
+        } else {
+            sheet
+        }
+    };
+    call("seeds", program, 200, drawn, |sheet| listings(sheet).into_bytes())
+}
+
+/// An accepted sheet with the first record of its chain once more; any other as it is.
+fn repeated(sheet: Vec<u8>) -> Vec<u8> {
+    match records(&sheet) {
+        Ok((header, chain)) if (1..RECORDS).contains(&chain.len()) => {
+            write(&header, &[&chain[..1], &chain].concat())
+        }
+        _ => sheet,
+    }
 }
 
 /// A program's file, if it is there.
@@ -126,9 +151,19 @@ mod tests {
         assert_eq!(other, r#"peer prints "\x04\xff", the program "\x04\x01""#);
     }
 
+    /// Case B has a chain, case A none.
+    #[test]
+    fn a_record_once_more() {
+        let [a, b] =
+            [&include_bytes!("../../../examples/a.sheet")[..], include_bytes!("../../../examples/b.sheet")];
+        assert!(repeated(a.to_vec()) == a && repeated(b[1..].to_vec()) == b[1..]);
+        assert_eq!(records(&repeated(b.to_vec())), Err(Cause::Repeated));
+    }
+
     #[test]
     fn a_program_that_is_not_there() {
-        for (call, name) in [(agree(Path::new("none")), "agree"), (rewrite(Path::new("none")), "rewrite")] {
+        let none = Path::new("none");
+        for (call, name) in [(agree(none), "agree"), (rewrite(none), "rewrite"), (seeds(none), "seeds")] {
             assert_eq!(call.err().unwrap(), format!("none isn't there: ./build {name} makes it"));
         }
         let tried = compare(Path::new("./none"), &[], rewritten);
