@@ -1,0 +1,76 @@
+-- Laws of what is printed, by the reader's answer. Assumes nothing.
+use Prim.Native.Nat.{ℕ, _*_, _≤_, min}
+use mathlib.Core.Path.{_≡_, refl, sym, ap, _∙_}
+use mathlib.Core.List.{List, [], _∷_}
+use native.Mathlib.Nat.{min-eq-left}
+use native.Mathlib.Omega.{arith}
+use lib.ListN.{length}
+use Rattle.line.specs.Line.{largest-table, outcomes-length}
+use Rattle.line.proofs.LineLaws.{table-bound}
+use Rattle.refusal.specs.Cause.{number}
+use Rattle.refusal.specs.declared.cause.Cause.{Cause}
+use Rattle.refusal.specs.declared.cause.Verdict.the-variants as verdict
+use Rattle.refusal.proofs.VerdictLaws.{both-accepted}
+use Rattle.layout.specs.declared.Header.{Header}
+use Rattle.layout.specs.Layout.{header, table-wanted}
+use Rattle.judgement.specs.Judgement.{bit-to-8, chain-verdict, bit-verdict}
+use Rattle.sheet.specs.declared.Reading.{Reading}
+use Rattle.sheet.specs.declared.Reading.the-variants as reading
+use Rattle.sheet.specs.Reading.{ReadsBit}
+use Rattle.sheet.specs.Loops.{SoundHeader}
+use Rattle.sheet.proofs.PromiseLaws.{bit-sound, bit-length}
+use Rattle.text.specs.Laid.{Puts}
+use Rattle.text.proofs.LaidLaws.{puts-whole}
+use Rattle.lines.specs.Lines as lines
+use Rattle.lines.specs.Text.{text}
+use Rattle.lines.proofs.LineLaws.{refusal-short}
+use Rattle.lines.proofs.VerdictLaws.{bit-accepted, bit-refused, bit-verdict-same}
+use Rattle.seeded.specs.Listings.{last-seed, listings, output, Printed}
+use Rattle.seeded.proofs.ListingLaws.{listings-short}
+use Rattle.seeds.specs.Loops.{longest-output, Ready, Begun}
+
+-- an accepted sheet's header, with outcomes of its length
+pub ready-header : (s : List ℕ) (h : Header) (table bytes results : List ℕ) → Begun s h table bytes → length results ≡ outcomes-length (h .n) → Ready h table bytes results
+ready-header s h table bytes results B c =
+    record { sound = rw (B .header-is) (B .sound); table-whole = rw (B .header-is) (B .table-whole); log-whole = rw (B .header-is) (B .log-whole); outcomes-whole = c }
+
+-- its line has at most 32 stations
+pub few : (s : List ℕ) (h : Header) (table bytes : List ℕ) → Begun s h table bytes → h .n ≤ 32
+few s h table bytes B = rw (B .header-is) (B .sound .most)
+
+module _ (s table₀ table₁ : List ℕ) {answer : Reading} (r : ReadsBit s 0 table₀ table₁ answer) (lent : length table₀ ≡ min (table-wanted s) largest-table) where
+  -- the verdict is the sheet's own
+  own : bit-verdict s 0 (length table₀) (r .fate) ≡ lines.verdict s (r .fate)
+  own = bit-verdict-same s (r .fate) (length table₀)
+      (λ sound. lent ∙ min-eq-left (table-bound (header s .n) (header s .t) (header s .upper) (sound .most) (sound .fits)))
+
+  module _ (h : Header) (e : answer ≡ reading.Accepted h) where
+    both : (bit-verdict s 0 (length table₀) (r .fate) ≡ verdict.Accepted) × (h ≡ header s)
+    both = bit-accepted s 0 table₀ table₁ r h e
+
+    opened : bit-to-8 s 0 (length table₀) ≡ verdict.Accepted
+    unfolding bit-verdict
+    opened = both-accepted (bit-to-8 s 0 (length table₀)) (chain-verdict s (r .fate)) (both .0) .0
+
+    sound : SoundHeader (header s)
+    sound = bit-sound s 0 (length table₀) opened
+
+    pub begun : (log : List ℕ) → length log ≡ length table₀ → length table₁ ≡ length table₀ → Begun s h table₁ log
+    begun log a b =
+        let size = bit-length s 0 (length table₀) opened in
+        record { header-is = both .1; sound = sound; table-whole = b ∙ size; log-whole = a ∙ size }
+
+    pub accepted-output : (out₀ out₁ : List ℕ) (n : ℕ) → length out₀ ≡ longest-output → Puts out₀ out₁ 0 (listings h last-seed) n → Printed s out₁ n
+    unfolding output
+    accepted-output out₀ out₁ n z p =
+        let short : length (listings h last-seed) ≤ longest-output = rw (both .1) (listings-short (header s) sound last-seed) in
+        let (inside, whole) = puts-whole p (omega (arith, short, z)) in
+        record { fate = r .fate; inside = inside; whole = whole ∙ rw (← own, both .0, both .1) }
+
+  pub refused-output : (c : Cause) (k : ℕ) → answer ≡ reading.Refused c → k ≡ number c → (out₀ out₁ : List ℕ) (n : ℕ) → length out₀ ≡ longest-output
+      → Puts out₀ out₁ 0 (text ((lines.refused ∷ lines.num k ∷ []) ∷ [])) n → Printed s out₁ n
+  unfolding output
+  refused-output c k e q out₀ out₁ n z p =
+      let short = refusal-short k in
+      let (inside, whole) = puts-whole p (omega (arith, short, z)) in
+      record { fate = r .fate; inside = inside; whole = whole ∙ rw (← own, bit-refused s 0 table₀ table₁ r c e, ← q) }

@@ -1,0 +1,2 @@
+-- What the program's private functions ask for. What it prints crate seeded defines.
+pub mod Loops
