@@ -26,8 +26,9 @@ fn drawn_row(table: &mut [u8], at: usize, n: usize, state: u32) -> u32
     let mut s = state;
     let mut j: usize = 0;
     while j < n {
-        s = xorshift::next(s);
-        table[at + j] = ballot(s);
+        let after = xorshift::next(s);
+        table[at + j] = ballot(after);
+        s = after;
         j += 1;
     }
     s
