@@ -4,13 +4,18 @@ use mathlib.Core.Path.{_≡_}
 use mathlib.Core.List.{List, [], _∷_}
 use lib.ListN.{length}
 use Rattle.refusal.specs.Cause.{code}
+use Rattle.layout.specs.Layout.{header}
 use Rattle.layout.specs.Chain.{Fate}
 use Rattle.lines.specs.Lines.{Field, agree, num, dash, verdict, lines}
 use Rattle.lines.specs.Text.{text}
 use Rattle.normal.specs.Output.{output}
+use Rattle.generator.specs.Tables.{generated}
+use Rattle.generator.specs.Judgement.{generate-verdict}
+use Rattle.seeded.specs.Listings.{seed-lines}
 
 -- what is wanted of a sheet: its listing's lines, or its text byte by byte, or the text's length, or what the program rewrite writes, or that it is accepted, or
--- the number that it is refused by
+-- the number that it is refused by; of a header and a seed the tables, or the listing's lines, or, with a table of so many bytes, the number that generating is
+-- refused by, 0 where it isn't
 pub data Wanted : Type 0 where
   prints : List (List Field) → Wanted
   writes : List ℕ → Wanted
@@ -18,6 +23,9 @@ pub data Wanted : Type 0 where
   rewritten-as : List ℕ → Wanted
   accepted : Wanted
   refused-by : ℕ → Wanted
+  draws : (seed : ℕ) → List ℕ → Wanted
+  lists : (seed : ℕ) → List (List Field) → Wanted
+  draws-not : (seed table-size number : ℕ) → Wanted
 
 pub record Case : Type 0 where
   pub sheet : List ℕ
@@ -31,6 +39,9 @@ Comes s (is-long k) = (fate : Fate s) × (length (text (lines s fate)) ≡ k)
 Comes s (rewritten-as b) = (fate : Fate s) × (output s fate ≡ b)
 Comes s accepted = (fate : Fate s) × (code (verdict s fate) ≡ 0)
 Comes s (refused-by k) = (fate : Fate s) × (code (verdict s fate) ≡ k)
+Comes s (draws seed b) = generated (header s) seed ≡ b
+Comes s (lists seed l) = seed-lines (header s) seed ≡ l
+Comes s (draws-not seed size k) = code (generate-verdict s seed size) ≡ k
 
 -- every row holds
 abbrev pub All : List Case → Type 0

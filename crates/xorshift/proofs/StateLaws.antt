@@ -4,7 +4,12 @@ use mathlib.Core.Path.{_≡_, refl, sym, ap, _∙_}
 use mathlib.Core.Logic.{_≢_}
 use native.Mathlib.Nat.{add-zero, add-suc}
 use Rattle.xorshift.specs.State.{states, shifted-left, shifted-right, xor-left, xor-right, next, state-after, before}
+use Rattle.xorshift.specs.Theorems.{KnownStates}
 use Rattle.xorshift.proofs.XorLaws.{left-twice, right-twice, left-far, right-far, left-stays, right-stays}
+
+pub known : KnownStates
+unfolding shifted-left shifted-right xor-left xor-right next state-after
+known = record { paper-1 = refl; paper-2 = refl; paper-3 = refl; one-1 = refl; one-2 = refl; one-3 = refl; one-4 = refl }
 
 next-stays : (x : ℕ) → x < states → next x < states
 unfolding next

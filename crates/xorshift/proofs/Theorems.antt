@@ -1,6 +1,9 @@
 -- The proof of each statement of specs/Theorems.antt.
-use Rattle.xorshift.specs.Theorems.{States-stay, Step-undone, Never-zero, Steps-run-on}
+use Rattle.xorshift.specs.Theorems.{Known-states, States-stay, Step-undone, Never-zero, Steps-run-on}
 use Rattle.xorshift.proofs.StateLaws as state
+
+pub known-states : Known-states
+known-states = state.known
 
 pub states-stay : States-stay
 states-stay = state.stays
