@@ -1,27 +1,33 @@
 #!/usr/bin/env python3
-"""For each must-fail edit of the definitions of crates broadcast and rules: a run or a log in which what is edited breaks a theorem. The same for wrong readings of
-request 5, numbers of several bits.
+"""For each must-fail edit of the definitions of crates broadcast, rules, xorshift and generator: a run, a log or a seed with which what is edited breaks a theorem.
+The same for wrong readings of request 5, numbers of several bits, and of request 7, noisy runs.
 
 The prover refuses each edit. This test shows that it is right to: it runs the documents' steps, and the same steps
 with the edit, on small lines with random bad stations, and looks for a run that breaks a statement of
 crates/broadcast/specs/Theorems.antt; and it asks who broke the rules, and the same with the edit, by logs of such runs
 and by changed ones, and looks for a log that breaks a statement of crates/rules/specs/Theorems.antt. It runs numbers bit by
-bit, and looks for a run that breaks demand 3 of the number, or what its outcome and log have of the bits'. What the documents
-say must break none; each edit must break one. An edit may also break what no statement has but request 4: which rounds
-count, byte by byte. Stations are counted from 0 and rounds from 1, as in the definitions. Prints a line for each check.
+bit, and looks for a run that breaks demand 3 of the number, or what its outcome and log have of the bits'. It generates tables,
+and looks for a seed that breaks a statement of the specs/Theorems.antt of crates xorshift, generator and seeded. What the documents
+say must break none; each edit must break one. An edit may also break what no statement has but a request: request 4's rounds
+that count, byte by byte, and request 7's bytes. How many steps come before a place only the code's promise says, and the two edits
+of crate generator's definitions break that alone. An edit of the code breaks what the code promises, and is none of these.
+Stations are counted from 0 and rounds from 1, as in the definitions. Prints a line for each check.
 """
+import itertools
 import pathlib
 import random
 import sys
 
-from model import (BLANK, FIRST, GARBLED, KING, OUTCOME, SECOND, SENDER, SILENCE, Keeping, Numbers, Rules, Run, Station, bit_or, broadcast, broke, exchange,
-                   garbled, garbled_alone, kind_of, log_of, number_broadcast, one_of, received, run_markings, runs_of_bits, second_step)
+import sheet as sheets
+from model import (BLANK, FIRST, GARBLED, KING, OUTCOME, SECOND, SENDER, SILENCE, Keeping, Noise, Numbers, Rules, Run, Station, bit_or, broadcast, broke, exchange,
+                   garbled, garbled_alone, generated, kind_of, log_of, mixed, next_state, number_broadcast, one_of, received, run_markings, runs_of_bits,
+                   second_step)
 
 CRATES = pathlib.Path(__file__).resolve().parent.parent / "crates"
 
 
 def edited(base=Rules, **change):
-    return type("Edited", (base,), {name: value if isinstance(value, (tuple, range)) else staticmethod(value) for name, value in change.items()})
+    return type("Edited", (base,), {name: staticmethod(value) if callable(value) else value for name, value in change.items()})
 
 
 EDITED = {
@@ -353,6 +359,73 @@ def search_numbers(numbers, tries):
     return None
 
 
+# ---- noisy runs
+
+
+STATE = {
+    "bits_beyond_32_kept": edited(Noise, xor_left=lambda states, k, state: state ^ state << k),
+    "state_of_31_bits": edited(Noise, states=2**31),
+    "step_not_undone": edited(Noise, xor_left=lambda states, k, state: (state << k) % states),
+}
+TABLES = {
+    "state_started_at_each_round": edited(Noise, runs_on=lambda seed, state, r, i: seed if i == 0 else state),
+    "stepped_for_unmarked": edited(Noise, steps=lambda marked: True),
+}
+NOISE = {
+    "right_before_left": edited(Noise, shifts=(-17, 13, 5)),
+    "mod_4_before_the_step": edited(Noise, written=lambda old, new: old),
+    "three_written_as_3": edited(Noise, byte=lambda state: state % 4),
+    "unmarked_drawn": edited(Noise, steps=lambda marked: True, writes=lambda marked: True),
+    "state_started_at_each_bit": edited(Noise, runs_on=lambda seed, state, r, i: seed if (r, i) == (1, 0) else state),
+}
+# the shifts that undo a step
+UNDOING = 5, 10, 20, -17, 13, 26
+KNOWN = {2463534242: [723471715, 2497366906, 2064144800], 1: [270369, 67634689, 2647435461, 307599695]}
+
+
+def states_from(seed, steps, noise=Noise):
+    """The seed, and the state after each of so many steps."""
+    return list(itertools.accumulate(range(steps), lambda state, _: next_state(state, noise), initial=seed))
+
+
+def broken_state(noise, seed):
+    """What is shown of the state."""
+    states = states_from(seed, 20, noise)
+    holds = {
+        "States-stay": max(states) < noise.states,
+        "Never-zero": 0 not in states,
+        "Step-undone": all(mixed(after, UNDOING, noise) == state for state, after in itertools.pairwise(states)),
+        "Known-states": all(states_from(first, len(known), noise)[1:] == known for first, known in KNOWN.items()),
+    }
+    return " and ".join(name for name, held in holds.items() if not held)
+
+
+def broken_tables(noise, run, w, seed):
+    """What is shown of the tables, and request 7's bytes: a step for each of a marked sender, in table order through all bits."""
+    tables = generated(run.n, run.t, w, run.bad, seed, noise)
+    drawn, other = ([b for at, b in enumerate(tables) if run.bad[at // run.n % run.n] == bad] for bad in (True, False))
+    marks = sum(bad << i for i, bad in enumerate(run.bad))
+    sheet = sheets.written(bytes((run.n, run.t, run.T, run.sender + 1, 0, w, 0, 0)) + marks.to_bytes(4, "little"), tables)
+    holds = {
+        "Ballot-of-four": set(drawn) <= {0, 1, 2, 255},
+        "Generated-bytes, silent": set(other) <= {255},
+        "Generated-reads-back": sheets.read(sheet, [0] * len(tables)) == (0, tables),
+        "request 7's bytes": drawn == [(0, 1, 2, 255)[state % 4] for state in states_from(seed, len(drawn))[1:]],
+    }
+    return " and ".join(name for name, held in holds.items() if not held)
+
+
+def search_noise(noise, tries):
+    """The statements broken by the first of some hundreds of seeds that breaks one, with its run."""
+    rng = random.Random(7)
+    for _ in range(tries):
+        (run, tables), seed = random_number(rng), rng.randrange(1, noise.states)
+        found = broken_state(noise, seed) or broken_tables(noise, run, len(tables), seed)
+        if found:
+            return found, f"seed {seed}, {run}, {len(tables)} bits"
+    return None
+
+
 # ---- all of them
 
 
@@ -367,7 +440,7 @@ def told(name, found, none):
 
 def of_edits(crate, edits, find):
     """Whether each edit of a crate's definitions breaks a theorem, and each that is there is here."""
-    there = {p.stem for p in (CRATES / crate / "must-fail").glob("*.edit")}
+    there = {p.stem for p in (CRATES / crate / "must-fail").glob("*.edit") if "\nfile: specs/" in p.read_text(encoding="utf-8")}
     for name in sorted(there | set(edits)):
         if name not in there or name not in edits:
             print(f"{name}: MISSING {'here' if name in there else f'in crates/{crate}/must-fail'}")
@@ -383,6 +456,10 @@ def main():
     results += of_edits("rules", KEEPING, lambda keeping: search_logs(keeping, 2000))
     results += [told("numbers, as request 5 has it", search_numbers(Numbers, 2000), "2000 numbers")]
     results += [told(name, search_numbers(numbers, 2000), "") for name, numbers in NUMBERS.items()]
+    results += [told("noisy runs, as request 7 has them", search_noise(Noise, 400), "400 runs")]
+    results += of_edits("xorshift", STATE, lambda noise: search_noise(noise, 400))
+    results += of_edits("generator", TABLES, lambda noise: search_noise(noise, 400))
+    results += [told(name, search_noise(noise, 400), "") for name, noise in NOISE.items()]
     print(f"{results.count(True)} passed, {results.count(False)} failed")
     return not all(results)
 

@@ -208,33 +208,41 @@ def number_broadcast(runs, rules=Rules, numbers=Numbers):
 class Noise:
     """Ticket 7's own: the state's steps, and which bytes of the tables are made of them. An edit replaces one of them."""
 
-    # "a 32-bit state, .. bits beyond 32 dropped"
-    bits = 32
-    # "at each step exclusive-or with itself shifted left 13, then right 17, then left 5"
-    shifts = (lambda state: state << 13), (lambda state: state >> 17), (lambda state: state << 5)
-    # "writes the new state mod 4, with 255 for 3"
+    # "a 32-bit state"
+    states = 2**32
+    # "at each step exclusive-or with itself shifted left 13, then right 17, then left 5": a shift to the right is below 0
+    shifts = 13, -17, 5
+    # "bits beyond 32 dropped"
+    xor_left = staticmethod(lambda states, k, state: state ^ (state << k) % states)
+    # "For each round, marked sender and receiver in table order it steps once and writes"
+    steps = staticmethod(lambda marked: marked)
+    writes = staticmethod(lambda marked: marked)
+    # "the new state mod 4, with 255 for 3"
     written = staticmethod(lambda old, new: new)
     byte = staticmethod(lambda state: SILENCE if state % 4 == 3 else state % 4)
-    # "For each round, marked sender and receiver in table order it steps once"
-    steps = staticmethod(lambda marked: marked)
-    # "With several bits the state runs on from one bit's table to the next."
-    next_table = staticmethod(lambda seed, state: state)
+    # "With several bits the state runs on from one bit's table to the next.": what a sender's row in a round begins from
+    runs_on = staticmethod(lambda seed, state, r, i: state)
+
+
+def mixed(state, shifts, noise=Noise):
+    """The state after exclusive-or with itself shifted by each of these."""
+    for k in shifts:
+        state = noise.xor_left(noise.states, k, state) if k > 0 else state ^ state >> -k
+    return state
 
 
 def next_state(state, noise=Noise):
-    for shift in noise.shifts:
-        state = (state ^ shift(state)) % 2**noise.bits
-    return state
+    return mixed(state, noise.shifts, noise)
 
 
 def generated(n, t, w, bad, seed, noise=Noise):
     """The bits' run tables, one after another; "Other bytes are 255"."""
     tables, state = [], seed
-    for _ in range(w or 1):
-        for marked in (bad[i] for _ in range(3 * t + 6) for i in range(n) for _ in range(n)):
-            old, state = state, next_state(state, noise) if noise.steps(marked) else state
-            tables.append(noise.byte(noise.written(old, state)) if marked else SILENCE)
-        state = noise.next_table(seed, state)
+    for r, i in ((r, i) for _ in range(w or 1) for r in range(1, 3 * t + 7) for i in range(n)):
+        state = noise.runs_on(seed, state, r, i)
+        for _ in range(n):
+            old, state = state, next_state(state, noise) if noise.steps(bad[i]) else state
+            tables.append(noise.byte(noise.written(old, state)) if noise.writes(bad[i]) else SILENCE)
     return tables
 
 
