@@ -27,7 +27,7 @@ use Rattle.xorshift.specs.State.{state-after}
 use Rattle.xorshift.proofs.StateLaws.{runs-on}
 use Rattle.generator.specs.Tables.{ballot, has-step, steps-before, byte-at, noise, generated, bit-state}
 use Rattle.generator.specs.Promise.{whole-rows, Fills}
-use Rattle.generator.specs.Theorems.{Byte}
+use Rattle.generator.specs.Theorems.{StepsCounted, Byte}
 use Rattle.generator.specs.Loops.{Rows, Drawn}
 
 -- ---- a ballot
@@ -49,6 +49,12 @@ ballot-of-four state = go (eqb (state % 4) 3) refl
         small (suc (suc zero)) l ne = omega arith
         small (suc (suc (suc zero))) l ne = absurd (ne refl)
         small (suc (suc (suc (suc x)))) l ne = absurd (omega arith)
+
+-- ---- the steps before a place
+
+pub steps-counted : (n marks p : ℕ) → StepsCounted n marks p
+unfolding steps-before has-step count
+steps-counted n marks p = record { first = refl; marked-more = λ e. rw e (omega arith); unmarked-same = λ e. rw e (omega arith) }
 
 -- ---- so many bytes
 

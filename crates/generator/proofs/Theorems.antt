@@ -1,9 +1,12 @@
 -- The proof of each statement of specs/Theorems.antt.
-use Rattle.generator.specs.Theorems.{Ballot-of-four, Generated-bytes, Generated-length, Bits-run-on}
+use Rattle.generator.specs.Theorems.{Ballot-of-four, Steps-counted, Generated-bytes, Generated-length, Bits-run-on}
 use Rattle.generator.proofs.TableLaws as table
 
 pub ballot-of-four : Ballot-of-four
 ballot-of-four = table.ballot-of-four
+
+pub steps-counted : Steps-counted
+steps-counted = table.steps-counted
 
 pub generated-bytes : Generated-bytes
 generated-bytes = table.generated-byte

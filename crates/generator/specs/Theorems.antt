@@ -9,12 +9,22 @@ use Rattle.line.specs.Line.{rounds, table-length, place}
 use Rattle.line.specs.Width.{bits, tables-length, part-of}
 use Rattle.line.specs.Marks.{marked}
 use Rattle.layout.specs.declared.Header.{Header}
+use Rattle.selection.specs.Places.{from-at}
 use Rattle.xorshift.specs.State.{state-after}
 use Rattle.generator.specs.Tables.{ballot, steps-before, noise, generated, bit-state}
 
 -- a ballot of a state is 0, 1, 2 or 255
 abbrev pub Ballot-of-four : Type 0
 Ballot-of-four = (state : ℕ) → (ballot state ≤ 2) ⊎ (ballot state ≡ 255)
+
+-- "in table order it steps once": none before the first place, one more past a place of a marked sender, and no more past another's, in all bits' tables
+pub record StepsCounted (n marks p : ℕ) : Type 0 where
+  pub first : steps-before n marks 0 ≡ 0
+  pub marked-more : marked marks (from-at n p) ≡ true → steps-before n marks (suc p) ≡ suc (steps-before n marks p)
+  pub unmarked-same : marked marks (from-at n p) ≡ false → steps-before n marks (suc p) ≡ steps-before n marks p
+
+abbrev pub Steps-counted : Type 0
+Steps-counted = (n marks p : ℕ) → StepsCounted n marks p
 
 -- the byte of bit b for round r, from station i, to j, both counted from 0
 pub record Byte (h : Header) (seed b r i j : ℕ) : Type 0 where
