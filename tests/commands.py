@@ -316,12 +316,15 @@ def drawn_by_seed():
     yield "draw --seed without a number", Ran("draw", "--seed").gives(2, b"", f"draw: --seed is without its number\n{usage}")
     yield "draw --seed=1", Ran("draw", "--seed=1", NOISY).gives(2, b"", f"draw: there is no option --seed=1\n{usage}")
     yield "draw --seed 1 --help", Ran("draw", "--seed", 1, "--help").status == 0
+    yield "draw, then --seed 1", Ran("draw", NOISY, "--seed", 1).gives(2, b"", f"draw: --seed and its number stand before the file\n{usage}")
     yield "draw --seed 1, two files", Ran("draw", "--seed", 1, NOISY, NOISY).gives(2, b"", f"draw: one file at most\n{usage}")
     status, shown = on_terminal(["./draw", "--seed", "1", NOISY])
-    yield "draw --seed: a terminal as output", status == 2 and shown.startswith("draw: a terminal can't show it: ")
+    said = f"draw: a terminal can't show it: write it to a file, as in ./draw --seed 1 {NOISY} >line.svg\r\nusage: "
+    yield "draw --seed: a terminal as output", status == 2 and shown.startswith(said)
     for command in COMMANDS:
         if command not in OPTIONS:
             yield f"{command} --seed", Ran(command, "--seed", 1, NOISY).gives(2, b"", rf"{command}: there is no option --seed\nusage: (?s:.*)")
+            yield f"{command}, then --seed", Ran(command, NOISY, "--seed", 1).gives(2, b"", rf"{command}: one file at most\nusage: (?s:.*)")
 
 
 # ---- ./audit, which takes a line's numbers and two files

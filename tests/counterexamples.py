@@ -8,10 +8,9 @@ crates/broadcast/specs/Theorems.antt; and it asks who broke the rules, and the s
 and by changed ones, and looks for a log that breaks a statement of crates/rules/specs/Theorems.antt. It runs numbers bit by
 bit, and looks for a run that breaks demand 3 of the number, or what its outcome and log have of the bits'. It generates tables,
 and looks for a seed that breaks a statement of the specs/Theorems.antt of crates xorshift, generator and seeded. What the documents
-say must break none; each edit must break one. An edit may also break what no statement has but a request: request 4's rounds
-that count, byte by byte, and request 7's bytes. How many steps come before a place only the code's promise says, and the two edits
-of crate generator's definitions break that alone. An edit of the code breaks what the code promises, and is none of these.
-Stations are counted from 0 and rounds from 1, as in the definitions. Prints a line for each check.
+say must break none; each edit must break one. An edit may also break what no statement has but request 4: which rounds count,
+byte by byte. Edits of the code break the code's promise alone, and are not looked at. Stations are counted from 0 and rounds from
+1, as in the definitions. Prints a line for each check.
 """
 import itertools
 import pathlib
@@ -401,7 +400,7 @@ def broken_state(noise, seed):
 
 
 def broken_tables(noise, run, w, seed):
-    """What is shown of the tables, and request 7's bytes: a step for each of a marked sender, in table order through all bits."""
+    """What is shown of the tables: with a step for each byte of a marked sender, in table order through all bits, they are of the states one after another."""
     tables = generated(run.n, run.t, w, run.bad, seed, noise)
     drawn, other = ([b for at, b in enumerate(tables) if run.bad[at // run.n % run.n] == bad] for bad in (True, False))
     marks = sum(bad << i for i, bad in enumerate(run.bad))
@@ -410,7 +409,7 @@ def broken_tables(noise, run, w, seed):
         "Ballot-of-four": set(drawn) <= {0, 1, 2, 255},
         "Generated-bytes, silent": set(other) <= {255},
         "Generated-reads-back": sheets.read(sheet, [0] * len(tables)) == (0, tables),
-        "request 7's bytes": drawn == [(0, 1, 2, 255)[state % 4] for state in states_from(seed, len(drawn))[1:]],
+        "Generated-bytes by Steps-counted": drawn == [(0, 1, 2, 255)[state % 4] for state in states_from(seed, len(drawn))[1:]],
     }
     return " and ".join(name for name, held in holds.items() if not held)
 
