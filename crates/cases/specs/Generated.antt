@@ -1,7 +1,7 @@
 -- Generated runs (document 02, request 7): a fourth table. A row is a header, as a sheet without records, and what comes of it with a seed.
 use Prim.Native.Nat.{ℕ}
 use mathlib.Core.List.{List, [], _∷_, _++_}
-use Rattle.cases.specs.Table.{Wanted, draws, lists, draws-not, Case, good, bad, opening}
+use Rattle.cases.specs.Table.{draws, lists, draws-not, Case, good, bad, opening}
 use Rattle.cases.specs.Numbers.{numbered}
 
 -- ---- tables

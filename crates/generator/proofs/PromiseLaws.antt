@@ -1,24 +1,22 @@
 -- Laws of what the calls promise: what no cause refuses, and the promises by what was done. Assumes nothing.
 use Prim.Native.Nat.{ℕ, _%_, _≤_}
-use mathlib.Core.Path.{_≡_, refl, sym, ap, _∙_}
+use mathlib.Core.Path.{_≡_, sym, ap, _∙_}
 use mathlib.Core.Bool.{false, true}
 use mathlib.Core.List.{List}
-use native.Mathlib.Nat.{mul-assoc, mul-mod-left}
+use native.Mathlib.Nat.{mul-mod-left}
 use lib.ListN.{length}
-use Rattle.line.specs.Line.{rounds}
-use Rattle.line.specs.Width.{bits, tables-length}
-use Rattle.refusal.specs.Cause.{_or-else_, Judged, written}
+use Rattle.line.specs.Width.{tables-length}
+use Rattle.refusal.specs.Cause.{_or-else_}
 use Rattle.refusal.specs.declared.cause.Cause.{Cause}
 use Rattle.refusal.specs.declared.cause.Verdict.{Verdict}
 use Rattle.refusal.specs.declared.cause.Verdict.the-variants.{Accepted, Refused}
 use Rattle.refusal.proofs.VerdictLaws.{judged, both-accepted}
-use Rattle.header.specs.Header.{SoundNumber, exact-length}
+use Rattle.header.specs.Header.{exact-length}
 use Rattle.header.proofs.HeaderLaws.{number-sound, length-exact}
-use Rattle.layout.specs.declared.Header.{Header}
 use Rattle.layout.specs.Layout.{header, tables-wanted}
 use Rattle.judgement.specs.Judgement.{header-length, sheet-form, verdict-to-6}
 use Rattle.selection.proofs.PlaceLaws.{tables-rounds}
-use Rattle.generator.specs.Tables.{noise, generated}
+use Rattle.generator.specs.Tables.{generated}
 use Rattle.generator.specs.Judgement.{seed-some, generate-verdict}
 use Rattle.generator.specs.Promise.{whole-rows, Fills, Generates}
 use Rattle.generator.specs.Loops.{Rows, Drawn}

@@ -2,19 +2,18 @@
 use Prim.Native.Nat.{ℕ, zero, suc, _+_, _-_, _*_, _/_, _%_, _≤_, _<_}
 use mathlib.Core.Path.{_≡_, refl, sym, ap, _∙_}
 use mathlib.Core.Bool.{Bool, true, false}
-use mathlib.Core.Logic.{_⊎_, ⊎-elim}
+use mathlib.Core.Logic.{⊎-elim}
 use mathlib.Core.List.{List}
 use native.Mathlib.Omega.{arith}
 use native.Mathlib.Numerals.{add-one}
-use native.Mathlib.Nat.{add-zero, add-suc, add-assoc, div-add-mod', mod-lt, mod-self, mod-eq-of-lt, suc-mod, le-refl, mul-le-mul-right, suc-mul}
+use native.Mathlib.Nat.{add-zero, div-add-mod', suc-mod, le-refl, mul-le-mul-right, suc-mul}
 use lib.Arith.{digits-div, digits-mod}
 use lib.ListN.{length, getD}
-use lib.Seq.{ext-getD}
 use Rattle.line.specs.Count.{if_then_else_, count}
 use Rattle.line.specs.Marks.{marked}
 use Rattle.line.specs.Ballot.{silence}
 use Rattle.line.specs.Writing.{over}
-use Rattle.line.proofs.CountLaws.{if-true, if-false, le-or-lt, count-same, count-none}
+use Rattle.line.proofs.CountLaws.{le-or-lt, count-same, count-none}
 use Rattle.line.proofs.WritingLaws.{over-length, over-before, over-at, over-same}
 use Rattle.selection.specs.Places.{from-at}
 use Rattle.selection.proofs.CountingLaws.{count-on}

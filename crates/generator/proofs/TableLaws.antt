@@ -5,11 +5,11 @@ use mathlib.Core.Bool.{Bool, true, false}
 use mathlib.Core.Logic.{_⊎_, inl, inr}
 use mathlib.Core.List.{List}
 use native.Mathlib.Omega.{arith}
-use native.Mathlib.Nat.{mul-assoc, mul-zero, zero-mul, mul-mod-left, mod-lt, add-comm, add-mul-div-right, mul-add-mod-self-right, add-mul-mod-self-right, mul-le-mul-right, suc-mul}
-use lib.Dec.{ltb, eqb}
+use native.Mathlib.Nat.{mul-assoc, mul-zero, zero-mul, add-comm, add-mul-div-right, add-mul-mod-self-right}
+use lib.Dec.{eqb}
 use lib.ListN.{length, getD}
 use lib.Seq.{ext-getD}
-use borrow.Author.Tests.{eqb-true, eqb-false, eq-eqb, ne-eqb, lt-ltb}
+use borrow.Author.Tests.{eqb-false, eq-eqb, ne-eqb, lt-ltb}
 use Rattle.line.specs.Count.{if_then_else_, count}
 use Rattle.line.specs.Line.{rounds, table-length, place}
 use Rattle.line.specs.Marks.{marked}
@@ -17,8 +17,7 @@ use Rattle.line.specs.Width.{bits, tables-length, part-of}
 use Rattle.line.proofs.CountLaws.{if-true, if-false, count-same}
 use Rattle.line.proofs.LineLaws.{next-row, row-within, place-below}
 use Rattle.line.proofs.WidthLaws.{part-at, part-size}
-use Rattle.broadcast.specs.Bytes.{tabulate}
-use Rattle.broadcast.proofs.BytesLaws.{length-tabulate, getD-tabulate, tabulate-same}
+use Rattle.broadcast.proofs.BytesLaws.{length-tabulate, getD-tabulate}
 use Rattle.layout.specs.declared.Header.{Header}
 use Rattle.selection.specs.Places.{from-at}
 use Rattle.selection.proofs.CountingLaws.{count-on}
@@ -26,9 +25,9 @@ use Rattle.selection.proofs.PlaceLaws.{from-told}
 use Rattle.xorshift.specs.State.{state-after}
 use Rattle.xorshift.proofs.StateLaws.{runs-on}
 use Rattle.generator.specs.Tables.{ballot, has-step, steps-before, byte-at, noise, generated, bit-state}
-use Rattle.generator.specs.Promise.{whole-rows, Fills}
+use Rattle.generator.specs.Promise.{whole-rows}
 use Rattle.generator.specs.Theorems.{StepsCounted, Byte}
-use Rattle.generator.specs.Loops.{Rows, Drawn}
+use Rattle.generator.specs.Loops.{Drawn}
 
 -- ---- a ballot
 

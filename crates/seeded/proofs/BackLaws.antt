@@ -1,6 +1,6 @@
 -- Laws of generated tables that are written and read back. Assumes nothing.
 use Prim.Native.Nat.{ℕ, _≤_, _<_}
-use mathlib.Core.Path.{_≡_, refl, sym, ap, _∙_}
+use mathlib.Core.Path.{_≡_, refl, sym, _∙_}
 use mathlib.Core.Bool.{Bool, true, false}
 use mathlib.Core.List.{List}
 use lib.ListN.{length, getD}
@@ -8,13 +8,10 @@ use lib.Seq.{ext-getD}
 use borrow.Author.Tests.{le-ltb}
 use Rattle.line.specs.Count.{if_then_else_}
 use Rattle.line.specs.Marks.{marked}
-use Rattle.refusal.specs.Cause.{_or-else_, refused-if}
 use Rattle.refusal.specs.declared.cause.Cause.the-variants.{TooManyRecords}
 use Rattle.refusal.specs.declared.cause.Verdict.the-variants.{Accepted}
 use Rattle.refusal.proofs.VerdictLaws.{both-accepted, refused-false}
-use Rattle.header.specs.Header.{exact-length}
 use Rattle.header.proofs.HeaderLaws.{length-accepts}
-use Rattle.number.specs.Numbers.{number-outcomes}
 use Rattle.layout.specs.Layout.{header, tables-wanted, most-records}
 use Rattle.layout.specs.Chain.{Fate}
 use Rattle.judgement.specs.Judgement.{header-length, verdict-to-6, verdict-to-8, sheet-verdict}
@@ -22,11 +19,11 @@ use Rattle.sheet.specs.Reading.{table-of}
 use Rattle.selection.specs.Places.{from-at, how-many}
 use Rattle.writer.specs.Sheet.{sheet}
 use Rattle.writer.specs.Judgement.{header-and-table, too-many, before-buffer}
-use Rattle.lines.specs.Lines.{lines-by, run, verdict, lines}
+use Rattle.lines.specs.Lines.{verdict, lines}
 use Rattle.normal.specs.Reading.{kept, ReadBack}
 use Rattle.normal.proofs.BackLaws.{read-back}
 use Rattle.generator.specs.Tables.{generated}
-use Rattle.generator.specs.Judgement.{seed-some, generate-verdict}
+use Rattle.generator.specs.Judgement.{generate-verdict}
 use Rattle.generator.proofs.TableLaws.{generated-length, generated-at, byte-silent}
 use Rattle.seeded.specs.Promise.{seed-run}
 use Rattle.seeded.specs.Listings.{seed-lines}

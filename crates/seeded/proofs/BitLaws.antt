@@ -1,6 +1,6 @@
 -- Laws of a generated run that is rehearsed one bit after another in one table and one log. Assumes nothing.
 use Prim.Native.Nat.{ℕ, suc, _+_, _-_, _*_, _≤_, _<_}
-use mathlib.Core.Path.{_≡_, refl, sym, ap, _∙_}
+use mathlib.Core.Path.{_≡_, sym, ap, _∙_}
 use mathlib.Core.Bool.{true}
 use mathlib.Core.List.{List}
 use native.Mathlib.Omega.{arith}
@@ -8,12 +8,12 @@ use native.Mathlib.Numerals.{add-one}
 use native.Mathlib.Nat.{mul-mod-left}
 use lib.ListN.{length}
 use Rattle.line.specs.Line.{rounds, table-length, outcomes-length}
-use Rattle.line.specs.Width.{bits, bit-of, tables-length, part-of}
+use Rattle.line.specs.Width.{bits, bit-of, part-of}
 use Rattle.line.proofs.WidthLaws.{bits-some, part-size}
 use Rattle.refusal.specs.declared.cause.Verdict.{Verdict}
 use Rattle.broadcast.specs.Bytes.{log}
 use Rattle.broadcast.proofs.BytesLaws.{log-size}
-use Rattle.number.specs.Numbers.{NumberRun, bit-run, gathered, bit-outcomes, number-outcomes}
+use Rattle.number.specs.Numbers.{bit-run, gathered, bit-outcomes, number-outcomes}
 use Rattle.number.proofs.BufferLaws.{gathered-length}
 use Rattle.rehearsal.specs.Promise.{run-of}
 use Rattle.recipe.specs.Promise.{RehearsedBit}
@@ -21,10 +21,9 @@ use Rattle.recipe.proofs.RunLaws.{bit-log, bit-gathered}
 use Rattle.layout.specs.declared.Header.{Header}
 use Rattle.sheet.specs.Loops.{SoundHeader}
 use Rattle.lines.specs.Lines.{run}
-use Rattle.generator.specs.Tables.{steps-before, noise, generated, bit-state}
+use Rattle.generator.specs.Tables.{generated, bit-state}
 use Rattle.generator.specs.Promise.{whole-rows, Fills}
 use Rattle.generator.proofs.TableLaws.{rows-whole, generated-length, bits-run-on, state-next-bit, state-first-bit}
-use Rattle.xorshift.specs.State.{state-after}
 use Rattle.seeded.specs.Promise.{seed-run, last-table, last-log}
 use Rattle.seeded.specs.Loops.{BitsRun, Ran}
 

@@ -1,17 +1,13 @@
 -- Laws of the listings of seeds: one seed more, and how long they can be. Assumes nothing.
-use Prim.Native.Nat.{ℕ, zero, suc, _+_, _*_, _≤_}
-use mathlib.Core.Path.{_≡_, refl}
-use mathlib.Core.List.{List, _++_}
+use Prim.Native.Nat.{ℕ, zero, suc, _*_, _≤_}
+use mathlib.Core.List.{List}
 use native.Mathlib.Omega.{arith}
-use native.Mathlib.Nat.{mul-suc, mul-zero}
-use native.Mathlib.Numerals.{add-one}
+use native.Mathlib.Nat.{mul-suc}
 use lib.ListN.{length, length-append}
-use Rattle.number.specs.Numbers.{number-outcomes}
 use Rattle.layout.specs.declared.Header.{Header}
 use Rattle.sheet.specs.Loops.{SoundHeader}
 use Rattle.text.specs.Laid.{Puts}
 use Rattle.text.proofs.LaidLaws.{puts-then}
-use Rattle.lines.specs.Lines.{lines-by}
 use Rattle.lines.specs.Text.{text}
 use Rattle.listing.specs.Theorems.{longest-listing}
 use Rattle.listing.proofs.LengthLaws.{run-short}

@@ -1,7 +1,6 @@
 // The rehearsal of a generated run, one bit after another in one table and one log: the state runs on from bit to bit.
 ghost use mathlib.Core.Path.{_≡_};
 ghost use Prim.Native.Nat.{_+_, _<_};
-ghost use lib.ListN.{length};
 ghost use Rattle.line.specs.Width.{bits};
 ghost use Rattle.seeded.specs.Promise.{seed-verdict, RehearsedSeed};
 ghost use Rattle.seeded.specs.Loops.{BitsRun, Ran};

@@ -2,7 +2,7 @@
 use Prim.Native.Nat.{ℕ, zero, suc, _+_, _*_, _/_, _%_, _^_, _≤_, _<_}
 use mathlib.Core.Path.{_≡_, refl, sym, ap, ap₂, _∙_}
 use native.Mathlib.Omega.{arith}
-use native.Mathlib.Nat.{add-zero, add-mul, mul-assoc, mul-comm, mul-right-comm, mul-mod-left, mul-add-mod-self-right, div-add-mod', div-eq-of-lt, lt-of-lt-of-le, le-of-lt, lt-of-le-of-lt, mod-lt}
+use native.Mathlib.Nat.{add-zero, add-mul, mul-assoc, mul-right-comm, mul-mod-left, mul-add-mod-self-right, div-add-mod', div-eq-of-lt, lt-of-lt-of-le, lt-of-le-of-lt, mod-lt}
 use lib.Arith.{bin-ind, digits-div, digits-mod}
 use lib.Pow.{pow-pos, pow-mono, pow-add, shr-shr, shr-le}
 use lib.Bits.{bitXor, differ, xor-step, xor-zero-r, xor-self, xor-block, xor-shr, xor-mod, xor-lt}

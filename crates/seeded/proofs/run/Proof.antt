@@ -4,7 +4,6 @@ use native.Mathlib.Omega.{arith}
 use Prim.Native.Nat.{_-_, _≤_}
 use mathlib.Core.Path.{_≡_, sym, _∙_}
 use Rattle.line.specs.Width.{bits}
-use Rattle.line.proofs.WidthLaws.{bits-some}
 use Rattle.seeded.specs.Loops.{BitsRun}
 use Rattle.seeded.proofs.BitLaws.{bits-end}
 use Rattle.seeded.proofs.run.Statement.{statement}
