@@ -193,7 +193,7 @@ static inline uint32_t vembopu_records(uint64_t answer)
 
 /*
  * Generates the run tables of a noisy run: what the marked stations send is made
- * from a seed, so that two lines with one header have the same bad day.
+ * from a seed, so that two lines with one header have the same noisy run.
  *
  * header      as for vembopu_sheet_len; the sender and the value are judged, and
  *             have no effect. Only read.
