@@ -19,7 +19,7 @@ fn states<const N: usize>(seed: u32) -> [u32; N] {
     })
 }
 
-/// Marsaglia's own seed, the first, and the largest.
+/// A large seed, the first, and the largest.
 #[test]
 fn known_states() {
     assert_eq!(states(2_463_534_242), [723_471_715, 2_497_366_906, 2_064_144_800, 2_008_045_182]);

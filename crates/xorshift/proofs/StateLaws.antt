@@ -9,7 +9,7 @@ use Rattle.xorshift.proofs.XorLaws.{left-twice, right-twice, left-far, 
 
 pub known : KnownStates
 unfolding shifted-left shifted-right xor-left xor-right next state-after
-known = record { paper-1 = refl; paper-2 = refl; paper-3 = refl; one-1 = refl; one-2 = refl; one-3 = refl; one-4 = refl }
+known = record { large-1 = refl; large-2 = refl; large-3 = refl; one-1 = refl; one-2 = refl; one-3 = refl; one-4 = refl }
 
 next-stays : (x : ℕ) → x < states → next x < states
 unfolding next

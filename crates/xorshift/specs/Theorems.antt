@@ -4,11 +4,11 @@ use mathlib.Core.Path.{_≡_}
 use mathlib.Core.Logic.{_≢_}
 use Rattle.xorshift.specs.State.{states, next, state-after, before}
 
--- known states: the first three from 2463534242, the seed in Marsaglia's paper, and the first four from 1
+-- the first three states from 2463534242 and the first four from 1, as numbers
 pub record KnownStates : Type 0 where
-  pub paper-1 : state-after 1 2463534242 ≡ 723471715
-  pub paper-2 : state-after 2 2463534242 ≡ 2497366906
-  pub paper-3 : state-after 3 2463534242 ≡ 2064144800
+  pub large-1 : state-after 1 2463534242 ≡ 723471715
+  pub large-2 : state-after 2 2463534242 ≡ 2497366906
+  pub large-3 : state-after 3 2463534242 ≡ 2064144800
   pub one-1 : state-after 1 1 ≡ 270369
   pub one-2 : state-after 2 1 ≡ 67634689
   pub one-3 : state-after 3 1 ≡ 2647435461
