@@ -508,7 +508,7 @@ def building(folder):
     yield "and what it has built", re.search(r"agree: built in \d+ s: [0-9a-f]{64}  target/bin/agree\n$", said)
     copy.env["RT_DOES"] = ""
     yield "the second doesn't", copy.agree().gives(0, b"agree built\n") and copy.called() == ["check agree"]
-    os.utime(copy.top / "crates" / "runs" / "stdin")
+    os.utime(copy.top / "crates" / "stored_runs" / "stdin")
     yield "nor where a crate has changed that it doesn't use", copy.agree().gives(0, b"agree built\n") and copy.called() == ["check agree"]
     os.utime(copy.top / "crates" / "line" / "src" / "lib.rt")
     again = copy.agree()

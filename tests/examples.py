@@ -9,7 +9,7 @@ examples.py          writes the sheets and listings of examples/: the documents'
 examples.py --check  holds each sheet to the one made here and to its text, its listing to the model's, and what the program agree prints to the listing; then
                      some inputs of odd lengths. Holds what the program seeds prints of these, where their tables are small, to the model's listings of noisy
                      runs, and those of the noisy line, one by one, to what agree prints of their runs' sheets. Holds what the program rewrite writes of all
-                     of these, and of the sheets of crate runs, to the model's normal form. Holds each log to the one made here, its set to the model's and to
+                     of these, and of the sheets of crate stored_runs, to the model's normal form. Holds each log to the one made here, its set to the model's and to
                      the least of all markings, and what the program audit prints to the set; then that program's odd uses. The last line is
                      'N passed, M failed'
 """

@@ -1,4 +1,4 @@
-"""The sheets that the program of crate runs is given: the documents' cases, garbled ballots in every kind of round,
+"""The sheets that the program of crate stored_runs is given: the documents' cases, garbled ballots in every kind of round,
 numbers of several bits, zeros and ones in balance, every cause in its variants, causes in conflict, chains of every shape, the longest sheets, and
 sheets drawn by lot, many of them damaged.
 

@@ -1,8 +1,8 @@
 #!/usr/bin/env python3
-"""What the program of crate runs reads and must print, computed here from documents 01 and 02 alone.
+"""What the program of crate stored_runs reads and must print, computed here from documents 01 and 02 alone.
 
     tests/runs.py            prints what it must print
-    tests/runs.py --write    writes crates/runs/stdin and crates/runs/stdout
+    tests/runs.py --write    writes crates/stored_runs/stdin and crates/stored_runs/stdout
     tests/runs.py --check    compares with both, and with the answers that the documents give
 
 A run on standard input is the sheet's length and the lent table's, two bytes each, low byte first, then the sheet.
@@ -19,7 +19,7 @@ import sheet
 from model import number_broadcast, runs_of_bits
 from run_sheets import stored
 
-FOLDER = pathlib.Path(__file__).resolve().parent.parent / "crates/runs"
+FOLDER = pathlib.Path(__file__).resolve().parent.parent / "crates/stored_runs"
 WORD = 2 ** 32
 
 
@@ -80,7 +80,7 @@ def differences(name, ours):
     if theirs == ours:
         return []
     at = next((q for q, (a, b) in enumerate(zip(ours, theirs)) if a != b), min(len(ours), len(theirs)))
-    return [f"crates/runs/{name}: differs from byte {at} on, and has {len(theirs)} bytes where {len(ours)} are computed"]
+    return [f"crates/stored_runs/{name}: differs from byte {at} on, and has {len(theirs)} bytes where {len(ours)} are computed"]
 
 
 def check():

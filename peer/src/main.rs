@@ -20,7 +20,7 @@ usage: peer listing [SHEET]    the listing of a run sheet
        peer draw [SHEET]       a drawing of the run, as SVG
        peer log [SHEET]        the run's log, as bytes; of a number the logs of its bits, bit 0's first
        peer outcomes [SHEET]   the run's outcomes, as bytes
-       peer runs [RUNS]        what the program of crate runs must print of stored runs
+       peer runs [RUNS]        what the program of crate stored_runs must print of stored runs
        peer audit N T UPPER SENDER LOG OUTCOMES
                                the stations that broke the rules, by the files of one bit's log and of its
                                outcomes

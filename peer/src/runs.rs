@@ -1,4 +1,4 @@
-//! The stored runs of crate `runs`: what its program must print of them.
+//! The stored runs of crate `stored_runs`: what its program must print of them.
 //!
 //! A run is the sheet's length and the lent table's, two bytes each, low byte first, then the sheet.
 

@@ -17,15 +17,15 @@ use Rattle.number.specs.Numbers as number
 use Rattle.layout.specs.Layout.{byte, two, four, header, first, records, start, round, from, to, ballot, next, bit, rest}
 use Rattle.layout.specs.Chain.{is-record, after, reached}
 use Rattle.judgement.specs.Judgement.{header-length, ill-formed, sheet-form, verdict-to-6, verdict-to-8, misplaced, record-form, unmarked-sender, same-place, taken-before, duplicate, record-verdict, records-verdict, sheet-verdict}
-use Rattle.sheet.specs.Reading.{place-of, filled}
+use Rattle.reader.specs.Reading.{place-of, filled}
 use Rattle.layout.proofs.ChainLaws.{kind, walk, fate}
-use Rattle.lines.specs.Lines.{station-line, station-lines, verdict, lines}
+use Rattle.listing_lines.specs.Lines.{station-line, station-lines, verdict, lines}
 use Rattle.text.specs.Decimal.{decimal}
 use Rattle.selection.specs.Places.{bit-at, round-at, from-at, to-at, to-write, how-many, ranked, place-written}
 use Rattle.record.specs.Bytes.{low, high, first-index, header-bytes, eight}
 use Rattle.writer.specs.Sheet.{next-index, record-of, record-bytes, records-bytes, sheet}
-use Rattle.normal.specs.Normal.{rewritten}
-use Rattle.normal.specs.Output.{output}
+use Rattle.normal_form.specs.Normal.{rewritten}
+use Rattle.normal_form.specs.Output.{output}
 use Rattle.xorshift.specs.State as state
 use Rattle.generator.specs.Tables as noise
 use Rattle.generator.specs.Judgement.{seed-some, generate-verdict}

@@ -6,9 +6,9 @@ use lib.ListN.{length}
 use Rattle.refusal.specs.Cause.{code}
 use Rattle.layout.specs.Layout.{header}
 use Rattle.layout.specs.Chain.{Fate}
-use Rattle.lines.specs.Lines.{Field, agree, num, dash, verdict, lines}
-use Rattle.lines.specs.Text.{text}
-use Rattle.normal.specs.Output.{output}
+use Rattle.listing_lines.specs.Lines.{Field, agree, num, dash, verdict, lines}
+use Rattle.listing_lines.specs.Text.{text}
+use Rattle.normal_form.specs.Output.{output}
 use Rattle.generator.specs.Tables.{generated}
 use Rattle.generator.specs.Judgement.{generate-verdict}
 use Rattle.seeded.specs.Listings.{seed-lines}

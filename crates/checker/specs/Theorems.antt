@@ -6,8 +6,7 @@ use Prim.Native.Nat.{ℕ, _≤_, _<_}
 use Rattle.refusal.specs.declared.cause.Verdict.the-variants.{Accepted}
 use Rattle.broadcast.specs.Bytes.{Run}
 use Rattle.rules.specs.Rules.{Logged, KeepsWith}
-use Rattle.rules.specs.Theorems.{run-on}
-use Rattle.rehearsal.specs.Calls.{Singly}
+use Rattle.station.specs.Singly.{Singly}
 use Rattle.rehearsal.specs.Promise.{Rehearsed}
 use Rattle.checker.specs.declared.Checked.the-variants.{Broke}
 use Rattle.checker.specs.Promise.{logged, verdict-of, check-answer}
@@ -19,8 +18,8 @@ Own-logs =
     → check-answer (logged (R .n) (R .t) (R .T) (R .sender) log₁ outcomes₁) ≡ Broke (R .marks)
 
 -- the rules are those of our own station: where nothing is refused, v makes station i keep them exactly if a single station, opened with v, answers its calls (`open`, `ballot`,
--- `advance`, `result`) as the log and the outcomes have it, on the rows that the log has for it. `Singly` looks at the numbers of the run only
+-- `advance`, `result`) as the log and the outcomes have it, on the rows that the log has for it
 abbrev pub Keeps-by-calls : Type 0
 Keeps-by-calls =
     (L : Logged) → verdict-of L ≡ Accepted → (i v : ℕ) → i < L .n → v ≤ 1
-    → KeepsWith L i v ↔ Singly (run-on L v 0 (L .log)) (L .log) (L .outcomes) i v
+    → KeepsWith L i v ↔ Singly (L .n) (L .t) (L .T) (L .sender) (L .log) (L .outcomes) i v

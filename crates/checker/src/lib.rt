@@ -77,7 +77,7 @@ fn follow(line: Line, sender: u8, course: Course, log: &[u8], r: u8, start: usiz
     let stations = course.stations;
     let value = stations.value;
     let z = stations.z;
-    let said = stations::tell(sender - 1, part, value, z);
+    let said = all_stations::tell(sender - 1, part, value, z);
     let before = course.kept;
     let kept = compare::kept_on(line, &said, log, start, before);
     let stations = round::take(line, sender - 1, part, Line::ALL, stations, log, start);

@@ -12,8 +12,8 @@ use Rattle.rules.specs.Rules.{Logged}
 use Rattle.checker.specs.declared.Checked.{Checked}
 use Rattle.checker.specs.declared.Checked.the-variants as checked
 use Rattle.checker.specs.Promise.{checked-number, Checks}
-use Rattle.sheet.specs.declared.Reading.{Reading}
-use Rattle.sheet.specs.Reading.{reading-number, Reads, ReadsBit}
+use Rattle.reader.specs.declared.Reading.{Reading}
+use Rattle.reader.specs.Reading.{reading-number, Reads, ReadsBit}
 use Rattle.writer.specs.declared.Need.{Need}
 use Rattle.writer.specs.declared.Need.the-variants as need
 use Rattle.writer.specs.declared.Writing.{Writing}

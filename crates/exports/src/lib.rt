@@ -2,14 +2,14 @@
 // refused; of the writer's calls and the checker it stands in the highest byte, above what the call gives. Each promises what the call that it passes on
 // promises.
 ghost use mathlib.Core.Path.{_≡_};
-ghost use Rattle.sheet.specs.Reading.{reading-number};
+ghost use Rattle.reader.specs.Reading.{reading-number};
 ghost use Rattle.recipe.specs.Promise.{number-run-of};
 ghost use Rattle.checker.specs.Promise.{logged};
 ghost use Rattle.exports.specs.Numbers.{ReadNumber, ReadBitNumber, NeedsWord, WritesWord, GeneratesNumber, RehearsedNumber, ExchangedNumber, ChecksWord};
 use checker::Checked;
 use line::Line;
 use refusal::cause;
-use sheet::Reading;
+use reader::Reading;
 use writer::Need;
 use writer::Writing;
 
@@ -28,7 +28,7 @@ fn number_of(reading: Reading) -> u8
 pub extern "C" fn vembopu_read(sheet: &[u8], table: &mut [u8]) -> u8
     ensures { λ r. ⌜ ReadNumber (now (sheet .entry)) (now (table .entry)) (now (table .exit)) r ⌝ }
 {
-    let reading = sheet::read(sheet, table);
+    let reading = reader::read(sheet, table);
     number_of(reading)
 }
 
@@ -37,7 +37,7 @@ pub extern "C" fn vembopu_read(sheet: &[u8], table: &mut [u8]) -> u8
 pub extern "C" fn vembopu_read_bit(sheet: &[u8], bit: u8, table: &mut [u8]) -> u8
     ensures { λ r. ⌜ ReadBitNumber (now (sheet .entry)) bit (now (table .entry)) (now (table .exit)) r ⌝ }
 {
-    let reading = sheet::read_bit(sheet, bit, table);
+    let reading = reader::read_bit(sheet, bit, table);
     number_of(reading)
 }
 

@@ -19,7 +19,7 @@ use Rattle.text.specs.Decimal.{space, digit, decimal, numeral}
 use Rattle.text.specs.Laid.{Puts}
 use Rattle.text.proofs.DecimalLaws.{decimal-numeral}
 use Rattle.text.proofs.LaidLaws.{puts-then}
-use Rattle.lines.proofs.LineLaws.{refusal-short}
+use Rattle.listing_lines.proofs.LineLaws.{refusal-short}
 use Rattle.finding.specs.Finding.{number-if, numbers, broke-line, finding}
 
 -- ---- one number

@@ -9,8 +9,8 @@ use Rattle.refusal.specs.Cause.{number}
 use Rattle.checker.specs.declared.Checked.{Checked}
 use Rattle.checker.specs.declared.Checked.the-variants.{Broke, Refused}
 use Rattle.text.specs.Decimal.{space, newline, numeral}
-use Rattle.lines.specs.Lines.{refused, num}
-use Rattle.lines.specs.Text.{text}
+use Rattle.listing_lines.specs.Lines.{refused, num}
+use Rattle.listing_lines.specs.Text.{text}
 
 -- station i's number, which is i + 1, if it is in the set
 unfoldable pub number-if : ℕ → ℕ → List ℕ

@@ -45,6 +45,6 @@ pub fn of_answer(out: &mut [u8], answer: Checked) -> usize
 {
     match answer {
         Checked::Broke(marks) => of_set(out, marks),
-        Checked::Refused(c) => lines::of_refusal(out, c.number()),
+        Checked::Refused(c) => listing_lines::of_refusal(out, c.number()),
     }
 }

@@ -1,4 +1,4 @@
-// The judgement of a run sheet: causes 1 to 8 and 15, and 11 and 12 of a record's numbers. Causes 9, 10 and 13 want the chain, which crate sheet walks.
+// The judgement of a run sheet: causes 1 to 8 and 15, and 11 and 12 of a record's numbers. Causes 9, 10 and 13 want the chain, which crate reader walks.
 ghost use mathlib.Core.Path.{_≡_};
 ghost use mathlib.Core.Bool.{not};
 ghost use Prim.Native.Nat.{_-_, _≤_};

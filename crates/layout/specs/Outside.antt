@@ -1,4 +1,4 @@
--- "A record outside the chain is ignored, its content too.": what is left of a sheet then (`Outside-ignored` of sheet).
+-- "A record outside the chain is ignored, its content too.": what is left of a sheet then (`Outside-ignored` of reader).
 use Prim.Native.Nat.{ℕ, _+_, _<_}
 use mathlib.Core.Path.{_≡_}
 use mathlib.Core.List.{List}

@@ -19,15 +19,15 @@ use Rattle.layout.specs.declared.Header.{Header}
 use Rattle.layout.specs.Layout.{header, table-wanted, tables-wanted}
 use Rattle.layout.specs.Chain.{Fate}
 use Rattle.judgement.specs.Judgement.{verdict-to-8, bit-to-8, chain-verdict, sheet-verdict, bit-verdict}
-use Rattle.sheet.specs.declared.Reading.{Reading}
-use Rattle.sheet.specs.declared.Reading.the-variants as reading
-use Rattle.sheet.specs.Reading.{table-of, bit-table, ReadsBit}
-use Rattle.sheet.specs.Loops.{SoundHeader}
-use Rattle.sheet.proofs.TableLaws.{table-long}
-use Rattle.sheet.proofs.PromiseLaws.{opening-sound, bit-length}
-use Rattle.sheet.proofs.Theorems.{one-fate, judged-either-way}
-use Rattle.lines.specs.Lines.{run, verdict}
-use Rattle.lines.proofs.VerdictLaws.{bit-accepted, bit-verdict-same}
+use Rattle.reader.specs.declared.Reading.{Reading}
+use Rattle.reader.specs.declared.Reading.the-variants as reading
+use Rattle.reader.specs.Reading.{table-of, bit-table, ReadsBit}
+use Rattle.reader.specs.Loops.{SoundHeader}
+use Rattle.reader.proofs.TableLaws.{table-long}
+use Rattle.reader.proofs.PromiseLaws.{opening-sound, bit-length}
+use Rattle.reader.proofs.Theorems.{one-fate, judged-either-way}
+use Rattle.listing_lines.specs.Lines.{run, verdict}
+use Rattle.listing_lines.proofs.VerdictLaws.{bit-accepted, bit-verdict-same}
 use Rattle.listing.specs.Loops.{BitRehearsed, Begun, BitsRun}
 
 -- ---- an accepted sheet

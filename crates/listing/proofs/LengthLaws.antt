@@ -28,14 +28,14 @@ use Rattle.layout.specs.declared.Header.{Header}
 use Rattle.layout.specs.Layout.{header}
 use Rattle.layout.specs.Chain.{Fate}
 use Rattle.judgement.specs.Judgement.{bit-to-8, chain-verdict, bit-verdict}
-use Rattle.sheet.specs.Reading.{table-of}
-use Rattle.sheet.specs.Loops.{SoundHeader}
+use Rattle.reader.specs.Reading.{table-of}
+use Rattle.reader.specs.Loops.{SoundHeader}
 use Rattle.text.specs.Decimal.{decimal}
 use Rattle.text.proofs.DecimalLaws.{decimal-one, decimal-two, decimal-short}
-use Rattle.lines.proofs.LineLaws.{bad-shown, good-shown, refusal-short}
-use Rattle.lines.specs.Lines.{first-line, station-line, station-lines, lines-by, run}
-use Rattle.lines.specs.Text.{line-text, text}
-use Rattle.sheet.proofs.PromiseLaws.{bit-sound}
+use Rattle.listing_lines.proofs.LineLaws.{bad-shown, good-shown, refusal-short}
+use Rattle.listing_lines.specs.Lines.{first-line, station-line, station-lines, lines-by, run}
+use Rattle.listing_lines.specs.Text.{line-text, text}
+use Rattle.reader.proofs.PromiseLaws.{bit-sound}
 use Rattle.listing.specs.Promise.{lent-verdict, listing}
 use Rattle.listing.specs.Theorems.{longest-listing}
 

@@ -16,14 +16,14 @@ use Rattle.broadcast.specs.Bytes.{log}
 use Rattle.number.specs.Numbers.{bit-run, number-outcomes}
 use Rattle.layout.specs.declared.Header.{Header}
 use Rattle.layout.specs.Layout.{header, table-wanted}
-use Rattle.sheet.specs.declared.Reading.{Reading}
-use Rattle.sheet.specs.declared.Reading.the-variants as reading
-use Rattle.sheet.specs.Reading.{table-of, bit-table, ReadsBit}
+use Rattle.reader.specs.declared.Reading.{Reading}
+use Rattle.reader.specs.declared.Reading.the-variants as reading
+use Rattle.reader.specs.Reading.{table-of, bit-table, ReadsBit}
 use Rattle.text.specs.Laid.{laid, Puts}
 use Rattle.text.proofs.LaidLaws.{laid-front, after-within}
-use Rattle.lines.specs.Lines.{refused, num, lines-by, run}
-use Rattle.lines.specs.Text.{text}
-use Rattle.lines.proofs.VerdictLaws.{bit-refused, bit-verdict-same}
+use Rattle.listing_lines.specs.Lines.{refused, num, lines-by, run}
+use Rattle.listing_lines.specs.Text.{text}
+use Rattle.listing_lines.proofs.VerdictLaws.{bit-refused, bit-verdict-same}
 use Rattle.listing.specs.Promise.{last-bit, lent-verdict, front, listing, Lists}
 use Rattle.listing.specs.Loops.{BitsRun, ListsRun, ListsWhole}
 use Rattle.listing.proofs.LengthLaws.{listing-short}

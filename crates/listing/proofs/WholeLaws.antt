@@ -9,10 +9,10 @@ use Rattle.line.specs.Line.{largest-table}
 use Rattle.line.proofs.LineLaws.{table-bound}
 use Rattle.layout.specs.Layout.{header, table-wanted}
 use Rattle.layout.specs.Chain.{Fate}
-use Rattle.sheet.specs.Loops.{SoundHeader}
-use Rattle.lines.specs.Lines.{lines}
-use Rattle.lines.specs.Text.{text}
-use Rattle.lines.proofs.VerdictLaws.{bit-verdict-same}
+use Rattle.reader.specs.Loops.{SoundHeader}
+use Rattle.listing_lines.specs.Lines.{lines}
+use Rattle.listing_lines.specs.Text.{text}
+use Rattle.listing_lines.proofs.VerdictLaws.{bit-verdict-same}
 use Rattle.listing.specs.Promise.{front, listing}
 use Rattle.listing.specs.Theorems.{Listing-fits}
 use Rattle.text.proofs.LaidLaws.{laid-whole, laid-length}

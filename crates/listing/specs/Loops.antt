@@ -15,10 +15,10 @@ use Rattle.recipe.specs.Promise.{RehearsedBit}
 use Rattle.layout.specs.declared.Header.{Header}
 use Rattle.layout.specs.Layout.{header, table-wanted}
 use Rattle.layout.specs.Chain.{Fate}
-use Rattle.sheet.specs.Reading.{table-of, bit-table}
+use Rattle.reader.specs.Reading.{table-of, bit-table}
 use Rattle.text.specs.Laid.{Puts}
-use Rattle.lines.specs.Lines.{lines-by, run, verdict}
-use Rattle.lines.specs.Text.{text}
+use Rattle.listing_lines.specs.Lines.{lines-by, run, verdict}
+use Rattle.listing_lines.specs.Text.{text}
 use Rattle.listing.specs.Promise.{last-bit, lent-verdict, listing}
 
 -- bit b of a header's number, whatever the call answered

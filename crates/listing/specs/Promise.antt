@@ -11,10 +11,10 @@ use Rattle.number.specs.Numbers.{bit-run, number-outcomes}
 use Rattle.layout.specs.Layout.{header, table-wanted}
 use Rattle.layout.specs.Chain.{Fate}
 use Rattle.judgement.specs.Judgement.{bit-verdict}
-use Rattle.sheet.specs.Reading.{table-of, bit-table}
+use Rattle.reader.specs.Reading.{table-of, bit-table}
 use Rattle.text.specs.Laid.{laid}
-use Rattle.lines.specs.Lines.{lines-by, run, lines}
-use Rattle.lines.specs.Text.{text}
+use Rattle.listing_lines.specs.Lines.{lines-by, run, lines}
+use Rattle.listing_lines.specs.Text.{text}
 
 -- the last bit: the sheet is read and rehearsed one bit after another (request 5: "The program runs one bit after another in one table")
 abbrev pub last-bit : List ℕ → ℕ
@@ -34,7 +34,7 @@ listing s lent-size fate = text (lines-by (lent-verdict s lent-size fate) (heade
 
 -- The promise. `table₀`, `log₀` and `text₀` are the lent buffers at entry, `table₁`, `log₁` and `text₁` at exit.
 pub record Lists (s table₀ table₁ log₀ log₁ text₀ text₁ : List ℕ) (answer : ℕ) : Type 0 where
-  -- what becomes of the sheet's chain: whatever shows it, verdict and table are the same (`One-fate` of crate sheet)
+  -- what becomes of the sheet's chain: whatever shows it, verdict and table are the same (`One-fate` of crate reader)
   pub fate : Fate s
   -- the length of the whole text, also where the buffer is shorter
   pub answer-is : answer ≡ length (listing s (front s (length table₀) (length log₀)) fate)

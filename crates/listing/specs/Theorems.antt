@@ -5,8 +5,8 @@ use mathlib.Core.List.{List}
 use lib.ListN.{length}
 use Rattle.line.specs.Line.{largest-table}
 use Rattle.layout.specs.Chain.{Fate}
-use Rattle.lines.specs.Lines.{lines}
-use Rattle.lines.specs.Text.{text}
+use Rattle.listing_lines.specs.Lines.{lines}
+use Rattle.listing_lines.specs.Text.{text}
 use Rattle.listing.specs.Promise.{front, listing, Lists, Listed}
 
 -- "The largest has 36,864 bytes.": with so many of table and of log the text is that of the lines that the sheet has by Lines.antt

@@ -8,7 +8,7 @@ ghost use Rattle.listing.specs.Loops.{BitRehearsed, BitsRun, Begun, List
 use layout::Header;
 use line::Line;
 use line::width;
-use sheet::Reading;
+use reader::Reading;
 
 // The length, or the buffer's where that is less.
 fn within(len: usize, most: usize) -> usize
@@ -50,7 +50,7 @@ fn next_bit(
     requires { ⌜ BitsRun (now sheet) header b (now table) (now log) (now outcomes) × (b < bits (header .w)) ⌝ }
     ensures { λ _. ⌜ BitsRun (now (sheet .entry)) header (b + 1) (now (table .exit)) (now (log .exit)) (now (outcomes .exit)) ⌝ }
 {
-    sheet::read_bit(sheet, b, table);
+    reader::read_bit(sheet, b, table);
     rehearse_bit(header, b, table, log, outcomes);
 }
 
@@ -81,7 +81,7 @@ fn list_outcomes(
     ensures { λ r. ⌜ ListsRun (now (sheet .entry)) (now (table .exit)) (now (log .exit)) (now (text .entry)) (now (text .exit)) r ⌝ }
 {
     run_bits(header, sheet, table, log, outcomes);
-    lines::of_run(text, 0, header, outcomes)
+    listing_lines::of_run(text, 0, header, outcomes)
 }
 
 // Rehearses and lists an accepted sheet, whose first bit was read.
@@ -106,10 +106,10 @@ fn list_whole(sheet: &[u8], table: &mut [u8], log: &mut [u8], text: &mut [u8]) -
     requires { ⌜ length (now log) ≡ length (now table) ⌝ }
     ensures { λ r. ⌜ ListsWhole (now (sheet .entry)) (now (table .entry)) (now (table .exit)) (now (log .entry)) (now (log .exit)) (now (text .entry)) (now (text .exit)) r ⌝ }
 {
-    let reading = sheet::read_bit(sheet, 0, table);
+    let reading = reader::read_bit(sheet, 0, table);
     match reading {
         Reading::Accepted(header) => list_run(header, sheet, table, log, text),
-        Reading::Refused(c) => lines::of_refusal(text, c.number()),
+        Reading::Refused(c) => listing_lines::of_refusal(text, c.number()),
     }
 }
 

@@ -9,18 +9,11 @@ use Rattle.rehearsal.specs.Promise.{run-of}
 use Rattle.rehearsal.specs.Theorems.{Rehearsed-bonders, Demand-3-of-bonders, Unflagged-bonders-agree}
 use Rattle.rehearsal.proofs.CallLaws.{single-stations, good-outcome}
 
--- `Singly` looks at the run's numbers only, and these are the same with another table
 pub rehearsed : Rehearsed-bonders
 rehearsed R accepted v values =
     let header = header-sound (R .n) (R .t) (R .T) (R .sender) (R .value) (R .marks) accepted in
     let made = single-stations R header v values .singly in
-    record {
-      received-size = made .log-size;
-      values = record { bit = values .bit; at-sender = values .at-sender };
-      good = λ i g.
-          let s = made .good i g in
-          record { station = s .station; opens = s .opens; tells = s .tells; running = s .running; advances = s .advances; done = s .done };
-    }
+    record { received-size = made .log-size; values = record { bit = values .bit; at-sender = values .at-sender }; good = made .good }
 
 pub guaranteed : Demand-3-of-bonders
 guaranteed n t T sender value marks v received outcomes accepted B =

@@ -1,59 +1,31 @@
--- Demand 2 of the calls: a station's calls in a row on its rows of the run's log, and what is made of such calls is the run. Assumes nothing.
+-- Demand 2 of the calls: a station's calls on its rows of the run's log, and what is made of such calls is the run. Assumes nothing.
 use Prim.Native.Nat.{ℕ, zero, suc, _+_, _-_, _*_, _/_, _%_, _≤_, _<_}
 use mathlib.Core.Path.{_≡_, refl, sym, ap, _∙_}
 use mathlib.Core.Bool.{Bool, true, false}
+use mathlib.Core.Logic.{_↔_}
 use mathlib.Core.List.{List}
 use native.Mathlib.Omega.{arith}
-use native.Mathlib.Numerals.{add-one}
 use lib.ListN.{length, getD}
 use lib.Seq.{ext-getD}
 use Rattle.line.specs.Line.{from-0, rounds, table-length, outcome-size, outcomes-length, place}
 use Rattle.line.specs.Marks.{marked}
 use Rattle.header.specs.Header.{Sound}
 use Rattle.refusal.specs.declared.cause.Verdict.the-variants.{Accepted}
-use Rattle.broadcast.specs.Station.{Setup, ballot, Result, done, at, after}
-use Rattle.broadcast.specs.Bytes.{Run, log, outcomes, setup, column}
+use Rattle.broadcast.specs.Station.{Result, done, at}
+use Rattle.broadcast.specs.Bytes.{Run, log, outcomes, setup}
 use Rattle.broadcast.specs.Guarantees.{Good}
 use Rattle.broadcast.specs.Theorems.{value-at, grade-at, flag-at, garbled-at, Follows, PutTogether, MakeRun}
-use Rattle.broadcast.proofs.BytesLaws.{length-tabulate}
-use Rattle.broadcast.proofs.Theorems.{log-bytes, outcome-bytes, station-follows-run, stations-make-run, done-after-rows}
-use Rattle.state.specs.declared.Station.{Station}
-use Rattle.station.specs.declared.Opened.{Opened}
-use Rattle.station.specs.declared.Opened.the-variants.{Ready}
-use Rattle.station.specs.declared.Told.{Told}
-use Rattle.station.specs.declared.Told.the-variants.{Ballot}
-use Rattle.station.specs.declared.Advanced.{Advanced}
-use Rattle.station.specs.declared.Advanced.the-variants.{Next}
-use Rattle.station.specs.declared.StationResult.{StationResult}
-use Rattle.station.specs.declared.StationResult.the-variants.{Done}
+use Rattle.broadcast.proofs.Theorems.{log-bytes, outcome-bytes, station-follows-run, stations-make-run}
 use Rattle.state.specs.Judgement.{opening-verdict}
-use Rattle.station.specs.Answers.{ballot-answer, advance-answer, result-answer}
-use Rattle.station.specs.Theorems as calls
 use Rattle.state.proofs.SoundLaws.{opening-accepts}
-use Rattle.station.proofs.Theorems.{calls-in-a-row}
-use Rattle.rehearsal.specs.Calls.{Singly, MadeOfCalls, Values, SingleStations}
+use Rattle.station.specs.Singly.{Singly, Automatic}
+use Rattle.station.proofs.Theorems.{singly-by-automaton}
+use Rattle.rehearsal.specs.Calls.{MadeOfCalls, Values, SingleStations}
 
--- ---- a call's answer, the same for the same station, has one value
-
-pub same-ready : {o : Opened} {a b : Station} → o ≡ Ready a → o ≡ Ready b → a ≡ b
-same-ready p q = cc
-
-pub same-next : (f : Station → Advanced) {s s′ a b : Station} → s ≡ s′ → f s ≡ Next a → f s′ ≡ Next b → a ≡ b
-same-next f e p q = cc
-
-pub same-ballot : (f : Station → Told) {s s′ : Station} {a b : ℕ} → s ≡ s′ → f s ≡ Ballot a → f s′ ≡ Ballot b → a ≡ b
-same-ballot f e p q = cc
-
-pub same-result : (f : Station → StationResult) {s s′ : Station} {a b c d a′ b′ c′ d′ : ℕ} → s ≡ s′ → f s ≡ Done a b c d → f s′ ≡ Done a′ b′ c′ d′
+-- two answers that are done have the same values
+pub same-done : {r : Result} {a b c d a′ b′ c′ d′ : ℕ} → r ≡ done a b c d → r ≡ done a′ b′ c′ d′
     → (a ≡ a′) × (b ≡ b′) × (c ≡ c′) × (d ≡ d′)
-same-result f e p q = (cc, cc, cc, cc)
-
-pub same-done : {r : Result} {a b c d a′ b′ c′ d′ : ℕ} → r ≡ done a b c d → r ≡ done a′ b′ c′ d′ → Done a b c d ≡ Done a′ b′ c′ d′
-same-done p q = cc
-
-pub row-whole : (n : ℕ) (bytes : List ℕ) (i r : ℕ) → length (column n bytes i r) ≡ n
-unfolding column
-row-whole n bytes i r = length-tabulate n _
+same-done p q = (cc, cc, cc, cc)
 
 -- ---- of a run
 
@@ -64,9 +36,6 @@ SameOutcome R results i =
     × (garbled-at results i ≡ garbled-at (outcomes R) i)
 
 module _ (R : Run) (header : Sound (R .n) (R .t) (R .T) (R .sender) (R .value) (R .marks)) (v : ℕ → ℕ) (values : Values R v) where
-  abbrev opening : ℕ → calls.Opening
-  opening i = record { n = R .n; t = R .t; T = R .T; sender = R .sender; own = i + 1; value = v i }
-
   accepted : (i : ℕ) → Good (R .n) (marked (R .marks)) i → opening-verdict (R .n) (R .t) (R .T) (R .sender) (i + 1) (v i) ≡ Accepted
   accepted i g =
       opening-accepts (R .n) (R .t) (R .T) (R .sender) (i + 1) (v i) (R .marks)
@@ -81,35 +50,22 @@ module _ (R : Run) (header : Sound (R .n) (R .t) (R .T) (R .sender) (R .value) (
       })
       (omega arith) (omega arith)
 
-  -- its calls in a row, on its rows of these bytes
-  in-a-row : (bytes : List ℕ) (i : ℕ) → Good (R .n) (marked (R .marks)) i → calls.InARow (opening i) (column (R .n) bytes i)
-  in-a-row bytes i g = calls-in-a-row (opening i) (accepted i g) (column (R .n) bytes i)
-
-  -- its setup is the run's
-  its-setup : (i : ℕ) → calls.setup (opening i) ≡ setup R i
-  unfolding setup
-  its-setup i = let e : i + 1 - 1 ≡ i = omega arith in rw e
-
   -- ---- the run's log and outcomes are made of calls
 
-  follows : (i : ℕ) → Good (R .n) (marked (R .marks)) i → Follows R i (v i)
+  pub follows : (i : ℕ) → Good (R .n) (marked (R .marks)) i → Follows R i (v i)
   follows i g =
       station-follows-run R (header .fits) (header .sender-low) (header .sender-high) i (v i) g
       (λ e. values .at-sender i (omega (arith, header .sender-low)))
 
-  run-singly : (i : ℕ) → Good (R .n) (marked (R .marks)) i → Singly R (log R) (outcomes R) i (v i)
+  -- what its calls answer on its rows of these bytes
+  by-automaton : (bytes results : List ℕ) (i : ℕ) → Good (R .n) (marked (R .marks)) i
+      → Singly (R .n) (R .t) (R .T) (R .sender) bytes results i (v i) ↔ Automatic (R .n) (R .t) (R .T) (R .sender) bytes results i (v i)
+  by-automaton bytes results i g = singly-by-automaton (R .n) (R .t) (R .T) (R .sender) bytes results i (v i) (accepted i g)
+
+  run-singly : (i : ℕ) → Good (R .n) (marked (R .marks)) i → Singly (R .n) (R .t) (R .T) (R .sender) (log R) (outcomes R) i (v i)
   unfolding setup
   run-singly i g =
-      let rows = column (R .n) (log R) i in
-      let row = in-a-row (log R) i g in
-      record {
-        station = calls.station-after (opening i) rows;
-        opens = row .opens;
-        tells = λ m j h l. row .tells m h ∙ ap Ballot (rw (its-setup i) (follows i g .ballots m j h l));
-        running = row .running;
-        advances = λ m h. rw (add-one m) (row .advances m h (row-whole (R .n) (log R) i (suc m)));
-        done = row .done ∙ rw (its-setup i) (same-done (done-after-rows (setup R i) (v i) rows .done-after) (follows i g .done-after));
-      }
+      by-automaton (log R) (outcomes R) i g .1 (record { ballots = follows i g .ballots; done-after = follows i g .done-after })
 
   bad-outcome : (i d : ℕ) → i < R .n → d < outcome-size → marked (R .marks) i ≡ true → at (outcomes R) (outcome-size * i + d) ≡ 255
   bad-outcome i zero h l e = let z : outcome-size * i + 0 ≡ outcome-size * i = omega arith in rw z (outcome-bytes R .marked-value i h e)
@@ -118,7 +74,7 @@ module _ (R : Run) (header : Sound (R .n) (R .t) (R .T) (R .sender) (R .value) (
   bad-outcome i (suc (suc (suc zero))) h l e = outcome-bytes R .marked-count i h e
   bad-outcome i (suc (suc (suc (suc d)))) h l e = absurd (omega arith)
 
-  make-run : MakeRun R v
+  pub make-run : MakeRun R v
   make-run =
       stations-make-run R (header .fits) (header .sender-low) (header .sender-high) v
       (values .at-sender (from-0 (R .sender)) (omega (arith, header .sender-low)))
@@ -134,21 +90,9 @@ module _ (R : Run) (header : Sound (R .n) (R .t) (R .T) (R .sender) (R .value) (
 
   -- ---- good stations that run singly on these bytes
 
-  module _ (bytes results : List ℕ) (single : (i : ℕ) → Good (R .n) (marked (R .marks)) i → Singly R bytes results i (v i)) where
-    -- a station of such calls is the automaton's
-    same-station : (i : ℕ) (g : Good (R .n) (marked (R .marks)) i) (m : ℕ) → m ≤ rounds (R .t)
-        → single i g .station m ≡ calls.station-after (opening i) (column (R .n) bytes i) m
-    same-station i g zero h = same-ready (single i g .opens) (in-a-row bytes i g .opens)
-    same-station i g (suc m) h =
-        same-next (λ s. advance-answer s (column (R .n) bytes i (suc m))) (same-station i g m (omega arith))
-        (rw (add-one m) at (single i g .advances m h))
-        (in-a-row bytes i g .advances m h (row-whole (R .n) bytes i (suc m)))
-
-    same-told : (i : ℕ) → Good (R .n) (marked (R .marks)) i → (m j : ℕ) → m < rounds (R .t) → j < R .n
-        → at bytes (place (R .n) (m + 1) i j) ≡ ballot (setup R i) (after (setup R i) (v i) (column (R .n) bytes i) m)
-    same-told i g m j h l =
-        same-ballot ballot-answer (same-station i g m (omega arith)) (single i g .tells m j h l) (in-a-row bytes i g .tells m h)
-        ∙ ap (λ (c : Setup). ballot c (after c (v i) (column (R .n) bytes i) m)) (its-setup i)
+  module _ (bytes results : List ℕ) (single : (i : ℕ) → Good (R .n) (marked (R .marks)) i → Singly (R .n) (R .t) (R .T) (R .sender) bytes results i (v i)) where
+    its-automaton : (i : ℕ) → Good (R .n) (marked (R .marks)) i → Automatic (R .n) (R .t) (R .T) (R .sender) bytes results i (v i)
+    its-automaton i g = by-automaton bytes results i g .0 (single i g)
 
     -- with the table's bytes from the bad ones, what they sent and received is the run's log, and their results are the run's
     module _ (size : length bytes ≡ table-length (R .n) (R .t))
@@ -156,24 +100,21 @@ module _ (R : Run) (header : Sound (R .n) (R .t) (R .T) (R .sender) (R .value) (
         → at bytes (place (R .n) r i j) ≡ at (R .table) (place (R .n) r i j))
       where
         put-together : PutTogether R v bytes
+        unfolding setup
         put-together = record {
           size = size;
           from-marked = bad-ballots;
           from-good = λ r i j a b hi hj e.
               let back : r - 1 + 1 ≡ r = omega arith in
-              rw back at (same-told i (hi, e) (r - 1) j (omega arith) hj);
+              rw back at (sym (its-automaton i (hi, e) .ballots (r - 1) j (omega arith) hj));
         }
 
         the-log : bytes ≡ log R
         the-log = make-run .the-log bytes put-together
 
         pub good-outcome : (i : ℕ) → Good (R .n) (marked (R .marks)) i → SameOutcome R results i
-        unfolding run-singly
-        good-outcome i g =
-            same-result result-answer
-            (same-station i g (rounds (R .t)) (omega arith)
-            ∙ ap (λ (l : List ℕ). calls.station-after (opening i) (column (R .n) l i) (rounds (R .t))) the-log)
-            (single i g .done) (run-singly i g .done)
+        unfolding setup
+        good-outcome i g = same-done (rw the-log at (its-automaton i g .done-after)) (follows i g .done-after)
 
   -- ---- what is made of calls is the run
 

@@ -20,12 +20,12 @@ use Rattle.line.proofs.LineLaws.{table-bound, round-within, round-there}
 use Rattle.header.specs.Header.{Sound}
 use Rattle.broadcast.specs.Broadcast.{part, speaks, value-of, final-grade, final-flag}
 use Rattle.broadcast.specs.Garbled.{reading, garbled-rounds}
-use Rattle.broadcast.specs.Station.{State, ballot, Result, done, at, after}
+use Rattle.broadcast.specs.Station.{State, ballot, at, after}
 use Rattle.broadcast.specs.Bytes.{setting, setting-of, Run, log, outcomes, setup, column}
 use Rattle.broadcast.specs.Guarantees.{Good}
 use Rattle.broadcast.specs.Theorems.{value-at, grade-at, garbled-at, Follows, PutTogether}
 use Rattle.broadcast.proofs.BytesLaws.{at-tabulate, at-in-round, column-at, good-value, good-grade, good-count}
-use Rattle.broadcast.proofs.Theorems.{log-bytes, good-ballots-readable, done-after-rows, station-follows-run, stations-make-run}
+use Rattle.broadcast.proofs.Theorems.{log-bytes, good-ballots-readable, done-after-rows}
 use Rattle.step.specs.Part.{as-part}
 use Rattle.column.specs.Column as columns
 use Rattle.round.specs.declared.Stations.{Stations}
@@ -33,22 +33,23 @@ use Rattle.round.specs.Round.{state-at, said-by, speaker-within, playable, Play
 use Rattle.round.proofs.RoundLaws.{says-ballot, takes-row, opened-at, speaker-in, played, playable-means, log-size, log-before, column-is}
 use Rattle.outcome.specs.Outcome.{outcome-at, reach}
 use Rattle.outcome.proofs.OutcomeLaws as outcome
+use Rattle.rehearsal.specs.Calls.{Values}
 use Rattle.rehearsal.specs.Rounds.{Playable, Played}
-
-same-done : {r : Result} {a b c d a′ b′ c′ d′ : ℕ} → r ≡ done a b c d → r ≡ done a′ b′ c′ d′ → (a ≡ a′) × (b ≡ b′) × (d ≡ d′)
-same-done p q = (cc, cc, cc)
+use Rattle.rehearsal.proofs.CallLaws as calls
 
 module _ (R : Run) (bytes₀ : List ℕ) (ready : Playable R bytes₀) where
   header : Sound (R .n) (R .t) (R .T) (R .sender) (R .value) (R .marks)
   header = ready .header
 
+  -- every station is opened with the sender's value
+  opened : Values R (λ _. R .value)
+  opened = record { bit = λ i g. header .value-bit; at-sender = λ i e. refl }
+
   follows : (i : ℕ) → i < R .n → marked (R .marks) i ≡ false → Follows R i (R .value)
-  follows i h g =
-      station-follows-run R (header .fits) (header .sender-low) (header .sender-high) i (R .value) (h, g) (λ _. refl)
+  follows i h g = calls.follows R header (λ _. R .value) opened i (h, g)
 
   together : PutTogether R (λ _. R .value) (log R)
-  together =
-      stations-make-run R (header .fits) (header .sender-low) (header .sender-high) (λ _. R .value) refl .log-is-such
+  together = calls.make-run R header (λ _. R .value) opened .log-is-such
 
   -- ---- every round can be played
 
@@ -188,8 +189,8 @@ module _ (R : Run) (bytes₀ : List ℕ) (ready : Playable R bytes₀) where
     its-done i h =
         let e = P .stations-are i (h .0) (h .1) in
         let d = done-after-rows (setup R i) (R .value) (column (R .n) (log R) i) .done-after in
-        let q = same-done d (follows i (h .0) (h .1) .done-after) in
-        (ap (λ (st : State). st .value) e ∙ q .0, ap (λ (st : State). st .grade) e ∙ q .1, ap (λ (st : State). st .garbled) e ∙ q .2)
+        let q = calls.same-done d (follows i (h .0) (h .1) .done-after) in
+        (ap (λ (st : State). st .value) e ∙ q .0, ap (λ (st : State). st .grade) e ∙ q .1, ap (λ (st : State). st .garbled) e ∙ q .3)
 
     value-is : (i : ℕ) → Good (R .n) (marked (R .marks)) i → getD (s .value) i 0 ≡ value-of (setting-of R) (from-0 (R .sender)) (R .value) i
     unfolding outcomes setting

@@ -1,4 +1,4 @@
--- Demand 2, of the calls: what `open`, `ballot`, `advance` and `result` of crate station answer on the rows of a log. The sentences quoted are the
+-- Demand 2, of the calls: what `open`, `ballot`, `advance` and `result` answer on the rows of a log (`Singly` of crate station). The sentences quoted are the
 -- demand's own (docs/AUDIT.md, "What is asked"). Station i is counted from 0: its number is i + 1.
 use Prim.Native.Nat.{ℕ, _+_, _*_, _≤_, _<_}
 use mathlib.Core.Path.{_≡_}
@@ -8,32 +8,16 @@ use lib.ListN.{length}
 use Rattle.line.specs.Line.{rounds, table-length, outcome-size, outcomes-length, place}
 use Rattle.line.specs.Marks.{marked}
 use Rattle.broadcast.specs.Station.{at}
-use Rattle.broadcast.specs.Bytes.{Run, column}
+use Rattle.broadcast.specs.Bytes.{Run}
 use Rattle.broadcast.specs.Guarantees.{Good}
-use Rattle.broadcast.specs.Theorems.{value-at, grade-at, flag-at, garbled-at}
-use Rattle.state.specs.declared.Station.{Station}
-use Rattle.station.specs.declared.Opened.the-variants.{Ready}
-use Rattle.station.specs.declared.Told.the-variants.{Ballot}
-use Rattle.station.specs.declared.Advanced.the-variants.{Next}
-use Rattle.station.specs.declared.StationResult.the-variants.{Running, Done}
-use Rattle.station.specs.Answers.{open-answer, ballot-answer, advance-answer, result-answer}
-
--- Station i run singly, opened with the run's numbers and the value v, on the rows that it received in the log: in each round it sends the log's ballots,
--- and after R rows it is done with its bytes of the outcomes. `station m` is what the caller has after m rows.
-pub record Singly (R : Run) (log outcomes : List ℕ) (i v : ℕ) : Type 0 where
-  pub station : ℕ → Station
-  pub opens : open-answer (R .n) (R .t) (R .T) (R .sender) (i + 1) v ≡ Ready (station 0)
-  pub tells : (m j : ℕ) → m < rounds (R .t) → j < R .n → ballot-answer (station m) ≡ Ballot (at log (place (R .n) (m + 1) i j))
-  pub running : (m : ℕ) → m < rounds (R .t) → result-answer (station m) ≡ Running (m + 1)
-  pub advances : (m : ℕ) → m < rounds (R .t) → advance-answer (station m) (column (R .n) log i (m + 1)) ≡ Next (station (m + 1))
-  pub done : result-answer (station (rounds (R .t))) ≡ Done (value-at outcomes i) (grade-at outcomes i) (flag-at outcomes i) (garbled-at outcomes i)
+use Rattle.station.specs.Singly.{Singly}
 
 -- a log and outcomes put together from the calls of single good stations, station i opened with v i, and the bad ones' bytes: the table's in the log, 255 in
 -- the outcomes
 pub record MadeOfCalls (R : Run) (v : ℕ → ℕ) (log outcomes : List ℕ) : Type 0 where
   pub log-size : length log ≡ table-length (R .n) (R .t)
   pub outcomes-size : length outcomes ≡ outcomes-length (R .n)
-  pub good : (i : ℕ) → Good (R .n) (marked (R .marks)) i → Singly R log outcomes i (v i)
+  pub good : (i : ℕ) → Good (R .n) (marked (R .marks)) i → Singly (R .n) (R .t) (R .T) (R .sender) log outcomes i (v i)
   pub bad-ballots : (r i j : ℕ) → 1 ≤ r → r ≤ rounds (R .t) → i < R .n → j < R .n → marked (R .marks) i ≡ true
       → at log (place (R .n) r i j) ≡ at (R .table) (place (R .n) r i j)
   pub bad-outcomes : (i d : ℕ) → i < R .n → d < outcome-size → marked (R .marks) i ≡ true → at outcomes (outcome-size * i + d) ≡ 255

@@ -12,7 +12,8 @@ use Rattle.refusal.specs.declared.cause.Verdict.the-variants.{Accepted}
 use Rattle.broadcast.specs.Bytes.{Run, log, outcomes}
 use Rattle.broadcast.specs.Guarantees.{Good, TwoThreshold}
 use Rattle.broadcast.specs.Theorems.{value-at, flag-at}
-use Rattle.rehearsal.specs.Calls.{Singly, Values}
+use Rattle.station.specs.Singly.{Singly}
+use Rattle.rehearsal.specs.Calls.{Values}
 use Rattle.rehearsal.specs.Promise.{run-of}
 
 -- A line of bonders: no run table is handed in. `received` is laid out like one: at place n r i j is the byte that station j received from i in round r, at a
@@ -25,7 +26,7 @@ pub record Bonders (n t T sender value marks : ℕ) (v : ℕ → ℕ) (received 
   pub values : Values (run-of n t T sender value marks received) v
   -- each good station runs by its own calls on the rows that it received: every station receives from it what `ballot` tells, and its bytes of the outcomes are
   -- what `result` answers at the end
-  pub good : (i : ℕ) → Good n (marked marks) i → Singly (run-of n t T sender value marks received) received outcomes i (v i)
+  pub good : (i : ℕ) → Good n (marked marks) i → Singly n t T sender received outcomes i (v i)
 
 -- there are such lines: every rehearsal's log and outcomes are one
 abbrev pub Rehearsed-bonders : Type 0

@@ -16,15 +16,15 @@ use Rattle.header.proofs.HeaderLaws.{length-accepts}
 use Rattle.layout.specs.declared.Header.{Header}
 use Rattle.layout.specs.Layout.{header, tables-wanted}
 use Rattle.judgement.specs.Judgement.{verdict-to-8, chain-verdict, sheet-verdict}
-use Rattle.sheet.specs.declared.Reading.{Reading}
-use Rattle.sheet.specs.declared.Reading.the-variants as reading
-use Rattle.sheet.specs.Reading.{table-of, Reads}
+use Rattle.reader.specs.declared.Reading.{Reading}
+use Rattle.reader.specs.declared.Reading.the-variants as reading
+use Rattle.reader.specs.Reading.{table-of, Reads}
 use Rattle.text.specs.Laid.{Puts}
 use Rattle.text.proofs.LaidLaws.{puts-whole}
-use Rattle.lines.specs.Lines as lines
-use Rattle.lines.specs.Text.{text}
-use Rattle.lines.proofs.LineLaws.{refusal-short}
-use Rattle.lines.proofs.VerdictLaws.{read-accepted, read-refused, verdict-same}
+use Rattle.listing_lines.specs.Lines as lines
+use Rattle.listing_lines.specs.Text.{text}
+use Rattle.listing_lines.proofs.LineLaws.{refusal-short}
+use Rattle.listing_lines.proofs.VerdictLaws.{read-accepted, read-refused, verdict-same}
 use Rattle.writer.specs.declared.Need.{Need}
 use Rattle.writer.specs.declared.Need.the-variants as need
 use Rattle.writer.specs.declared.Writing.{Writing}
@@ -32,11 +32,11 @@ use Rattle.writer.specs.Sheet.{sheet, sheet-length}
 use Rattle.writer.specs.Judgement.{before-buffer, write-verdict}
 use Rattle.writer.specs.Writing.{Needs, Writes}
 use Rattle.writer.proofs.PromiseLaws.{told-accepted, told-bytes, told-most}
-use Rattle.normal.specs.Normal.{rewritten}
-use Rattle.normal.specs.Output.{output, Rewritten}
-use Rattle.normal.proofs.SheetLaws.{length-is}
-use Rattle.normal.proofs.FrontLaws.{form}
-use Rattle.normal.proofs.Theorems.{normal-form}
+use Rattle.normal_form.specs.Normal.{rewritten}
+use Rattle.normal_form.specs.Output.{output, Rewritten}
+use Rattle.normal_form.proofs.SheetLaws.{length-is}
+use Rattle.normal_form.proofs.FrontLaws.{form}
+use Rattle.normal_form.proofs.Theorems.{normal-form}
 
 -- ---- a sheet, written
 

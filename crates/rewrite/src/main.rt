@@ -8,13 +8,13 @@ ghost use Rattle.refusal.specs.declared.cause.Verdict.the-variants.{Accepted};
 ghost use Rattle.layout.specs.Layout.{tables-wanted};
 ghost use Rattle.writer.specs.Sheet.{sheet};
 ghost use Rattle.writer.specs.Judgement.{before-buffer};
-ghost use Rattle.normal.specs.Output.{Rewritten};
+ghost use Rattle.normal_form.specs.Output.{Rewritten};
 use input::Input;
 use libc::STDERR_FILENO;
 use libc::STDIN_FILENO;
 use libc::STDOUT_FILENO;
 use line::Line;
-use sheet::Reading;
+use reader::Reading;
 use writer::Need;
 
 // The longest sheet, of 4,096 records.
@@ -52,10 +52,10 @@ fn rewrite(sheet: &[u8], table: &mut [u8], out: &mut [u8]) -> usize
     requires { ⌜ (length (now table) ≡ min (tables-wanted (now sheet)) largest-tables) × (length (now out) ≡ 32780) ⌝ }
     ensures { λ r. ⌜ Rewritten (now (sheet .entry)) (now (out .exit)) r ⌝ }
 {
-    let reading = sheet::read(sheet, table);
+    let reading = reader::read(sheet, table);
     match reading {
         Reading::Accepted(_) => write(&sheet[..12], table, out),
-        Reading::Refused(c) => lines::of_refusal(out, c.number()),
+        Reading::Refused(c) => listing_lines::of_refusal(out, c.number()),
     }
 }
 

@@ -35,7 +35,7 @@ use Rattle.step.specs.declared.Part.{Part}
 use Rattle.post.specs.Posted.{posted}
 use Rattle.line.specs.Marks.{marked}
 use Rattle.post.proofs.PostLaws.{posted-as, posted-at, posted-before, posted-length}
-use Rattle.stations.specs.Counts.{votes-for}
+use Rattle.all_stations.specs.Counts.{votes-for}
 use Rattle.round.specs.declared.Stations.{Stations}
 use Rattle.round.specs.Round.{setup-at, state-at, said-by, Moves, Taken, speaker-within, takable, Takes, playable, Plays}
 

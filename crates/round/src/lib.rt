@@ -31,7 +31,7 @@ fn take_sender(
     ensures { λ r. ⌜ Moves (line .n) (line .t) (line .upper) sender Sender s garbled (now (log .entry)) start r ⌝ }
 {
     let heard = column::sent_by(line, log, start, sender);
-    let value = stations::hear(heard);
+    let value = all_stations::hear(heard);
     let z = s.z;
     let grade = s.grade;
     Stations {
@@ -49,7 +49,7 @@ fn take_first(line: Line, s: Stations, garbled: [u8; 32], log: &[u8], start: usi
 {
     let value = s.value;
     let equal = column::count(line, log, start, &value);
-    let z = stations::choose(line, value, equal);
+    let z = all_stations::choose(line, value, equal);
     let grade = s.grade;
     Stations {
         value,
@@ -68,9 +68,9 @@ fn take_second(line: Line, s: Stations, garbled: [u8; 32], log: &[u8], start: us
     let one = [1u8; 32];
     let zeros = column::count(line, log, start, &zero);
     let ones = column::count(line, log, start, &one);
-    let value = stations::decide(zeros, ones);
+    let value = all_stations::decide(zeros, ones);
     let z = s.z;
-    let grade = stations::grade(line, zeros, ones);
+    let grade = all_stations::grade(line, zeros, ones);
     Stations {
         value,
         z,
@@ -95,7 +95,7 @@ fn take_king(
     let y = s.value;
     let z = s.z;
     let grade = s.grade;
-    let value = stations::obey(grade, y, heard);
+    let value = all_stations::obey(grade, y, heard);
     Stations {
         value,
         z,
@@ -119,7 +119,7 @@ fn take_all(
 {
     let before = s.garbled;
     let found = garbled::found(line, senders, sender, part, log, start);
-    let garbled = stations::note(before, found);
+    let garbled = all_stations::note(before, found);
     match part {
         Part::Sender => take_sender(line, sender, s, garbled, log, start),
         Part::First => take_first(line, s, garbled, log, start),
@@ -180,7 +180,7 @@ pub fn play(
             if line.has_round(start, table.len()) {
                 let value = s.value;
                 let z = s.z;
-                let said = stations::tell(sender, part, value, z);
+                let said = all_stations::tell(sender, part, value, z);
                 post::round(line, marks, &said, table, log, start);
                 return take_all(line, sender, part, marks, s, log, start);
             }

@@ -15,13 +15,13 @@ use Rattle.header.proofs.HeaderLaws.{length-accepts}
 use Rattle.layout.specs.Layout.{header, tables-wanted, most-records}
 use Rattle.layout.specs.Chain.{Fate}
 use Rattle.judgement.specs.Judgement.{header-length, verdict-to-6, verdict-to-8, sheet-verdict}
-use Rattle.sheet.specs.Reading.{table-of}
+use Rattle.reader.specs.Reading.{table-of}
 use Rattle.selection.specs.Places.{from-at, how-many}
 use Rattle.writer.specs.Sheet.{sheet}
 use Rattle.writer.specs.Judgement.{header-and-table, too-many, before-buffer}
-use Rattle.lines.specs.Lines.{verdict, lines}
-use Rattle.normal.specs.Reading.{kept, ReadBack}
-use Rattle.normal.proofs.BackLaws.{read-back}
+use Rattle.listing_lines.specs.Lines.{verdict, lines}
+use Rattle.normal_form.specs.Reading.{kept, ReadBack}
+use Rattle.normal_form.proofs.BackLaws.{read-back}
 use Rattle.generator.specs.Tables.{generated}
 use Rattle.generator.specs.Judgement.{generate-verdict}
 use Rattle.generator.proofs.TableLaws.{generated-length, generated-at, byte-silent}

@@ -19,8 +19,8 @@ use Rattle.rehearsal.specs.Promise.{run-of}
 use Rattle.recipe.specs.Promise.{RehearsedBit}
 use Rattle.recipe.proofs.RunLaws.{bit-log, bit-gathered}
 use Rattle.layout.specs.declared.Header.{Header}
-use Rattle.sheet.specs.Loops.{SoundHeader}
-use Rattle.lines.specs.Lines.{run}
+use Rattle.reader.specs.Loops.{SoundHeader}
+use Rattle.listing_lines.specs.Lines.{run}
 use Rattle.generator.specs.Tables.{generated, bit-state}
 use Rattle.generator.specs.Promise.{whole-rows, Fills}
 use Rattle.generator.proofs.TableLaws.{rows-whole, generated-length, bits-run-on, state-next-bit, state-first-bit}

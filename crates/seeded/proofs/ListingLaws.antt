@@ -5,10 +5,10 @@ use native.Mathlib.Omega.{arith}
 use native.Mathlib.Nat.{mul-suc}
 use lib.ListN.{length, length-append}
 use Rattle.layout.specs.declared.Header.{Header}
-use Rattle.sheet.specs.Loops.{SoundHeader}
+use Rattle.reader.specs.Loops.{SoundHeader}
 use Rattle.text.specs.Laid.{Puts}
 use Rattle.text.proofs.LaidLaws.{puts-then}
-use Rattle.lines.specs.Text.{text}
+use Rattle.listing_lines.specs.Text.{text}
 use Rattle.listing.specs.Theorems.{longest-listing}
 use Rattle.listing.proofs.LengthLaws.{run-short}
 use Rattle.generator.specs.Tables.{generated}

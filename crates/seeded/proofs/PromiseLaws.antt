@@ -11,10 +11,10 @@ use Rattle.refusal.proofs.VerdictLaws.{judged, never, both-accepted}
 use Rattle.header.proofs.HeaderLaws.{number-sound, number-verdict-accepts, length-exact, length-accepts}
 use Rattle.number.proofs.Theorems.{demand-3-of-numbers}
 use Rattle.layout.specs.declared.Header.{Header}
-use Rattle.sheet.specs.Loops.{SoundHeader}
+use Rattle.reader.specs.Loops.{SoundHeader}
 use Rattle.generator.specs.Tables.{generated}
 use Rattle.generator.specs.Judgement.{seed-some}
-use Rattle.lines.specs.Lines.{run}
+use Rattle.listing_lines.specs.Lines.{run}
 use Rattle.seeded.specs.Promise.{seed-run, seed-verdict, RehearsedSeed}
 use Rattle.seeded.specs.Loops.{BitsRun, Ran}
 use Rattle.seeded.proofs.BitLaws.{bits-begin}

@@ -1,6 +1,6 @@
 -- The proof of each statement of specs/Theorems.antt.
 use Rattle.layout.specs.Layout.{header}
-use Rattle.sheet.proofs.PromiseLaws.{opened-sound}
+use Rattle.reader.proofs.PromiseLaws.{opened-sound}
 use Rattle.seeded.specs.Theorems.{Generated-reads-back, Listings-short}
 use Rattle.seeded.proofs.BackLaws as back
 use Rattle.seeded.proofs.ListingLaws as listing

@@ -8,9 +8,9 @@ use Rattle.number.specs.Numbers.{number-outcomes}
 use Rattle.layout.specs.declared.Header.{Header}
 use Rattle.layout.specs.Layout.{header}
 use Rattle.layout.specs.Chain.{Fate}
-use Rattle.lines.specs.Lines.{Field, lines-by, verdict}
-use Rattle.lines.specs.Text.{text}
-use Rattle.normal.specs.Output.{output-by}
+use Rattle.listing_lines.specs.Lines.{Field, lines-by, verdict}
+use Rattle.listing_lines.specs.Text.{text}
+use Rattle.normal_form.specs.Output.{output-by}
 use Rattle.seeded.specs.Promise.{seed-run}
 
 -- "to 100"

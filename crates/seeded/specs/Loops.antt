@@ -8,7 +8,7 @@ use Rattle.line.specs.Width.{part-of}
 use Rattle.broadcast.specs.Bytes.{log}
 use Rattle.number.specs.Numbers.{bit-run, gathered, bit-outcomes, number-outcomes}
 use Rattle.layout.specs.declared.Header.{Header}
-use Rattle.sheet.specs.Loops.{SoundHeader}
+use Rattle.reader.specs.Loops.{SoundHeader}
 use Rattle.generator.specs.Tables.{generated, bit-state}
 use Rattle.seeded.specs.Promise.{seed-run, last-table, last-log}
 

@@ -17,7 +17,7 @@ use Rattle.number.specs.Numbers.{NumberRun, bit-run, number-outcomes}
 use Rattle.layout.specs.declared.Header.{Header}
 use Rattle.generator.specs.Tables.{generated}
 use Rattle.generator.specs.Judgement.{seed-some}
-use Rattle.lines.specs.Lines.{run}
+use Rattle.listing_lines.specs.Lines.{run}
 
 -- the run of a header's number with the tables that a seed generates
 unfoldable pub seed-run : Header → ℕ → NumberRun

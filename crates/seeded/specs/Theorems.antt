@@ -7,11 +7,11 @@ use Rattle.refusal.specs.declared.cause.Verdict.the-variants.{Accepted}
 use Rattle.layout.specs.Layout.{header, tables-wanted, most-records}
 use Rattle.layout.specs.Chain.{Fate}
 use Rattle.judgement.specs.Judgement.{sheet-verdict, verdict-to-6}
-use Rattle.sheet.specs.Reading.{table-of}
+use Rattle.reader.specs.Reading.{table-of}
 use Rattle.selection.specs.Places.{how-many}
 use Rattle.writer.specs.Sheet.{sheet}
 use Rattle.writer.specs.Judgement.{before-buffer}
-use Rattle.lines.specs.Lines.{lines}
+use Rattle.listing_lines.specs.Lines.{lines}
 use Rattle.listing.specs.Theorems.{longest-listing}
 use Rattle.generator.specs.Tables.{generated}
 use Rattle.generator.specs.Judgement.{generate-verdict}

@@ -14,17 +14,17 @@ use Rattle.refusal.proofs.VerdictLaws.{both-accepted}
 use Rattle.layout.specs.declared.Header.{Header}
 use Rattle.layout.specs.Layout.{header, table-wanted}
 use Rattle.judgement.specs.Judgement.{bit-to-8, chain-verdict, bit-verdict}
-use Rattle.sheet.specs.declared.Reading.{Reading}
-use Rattle.sheet.specs.declared.Reading.the-variants as reading
-use Rattle.sheet.specs.Reading.{ReadsBit}
-use Rattle.sheet.specs.Loops.{SoundHeader}
-use Rattle.sheet.proofs.PromiseLaws.{bit-sound, bit-length}
+use Rattle.reader.specs.declared.Reading.{Reading}
+use Rattle.reader.specs.declared.Reading.the-variants as reading
+use Rattle.reader.specs.Reading.{ReadsBit}
+use Rattle.reader.specs.Loops.{SoundHeader}
+use Rattle.reader.proofs.PromiseLaws.{bit-sound, bit-length}
 use Rattle.text.specs.Laid.{Puts}
 use Rattle.text.proofs.LaidLaws.{puts-whole}
-use Rattle.lines.specs.Lines as lines
-use Rattle.lines.specs.Text.{text}
-use Rattle.lines.proofs.LineLaws.{refusal-short}
-use Rattle.lines.proofs.VerdictLaws.{bit-accepted, bit-refused, bit-verdict-same}
+use Rattle.listing_lines.specs.Lines as lines
+use Rattle.listing_lines.specs.Text.{text}
+use Rattle.listing_lines.proofs.LineLaws.{refusal-short}
+use Rattle.listing_lines.proofs.VerdictLaws.{bit-accepted, bit-refused, bit-verdict-same}
 use Rattle.seeded.specs.Listings.{last-seed, listings, output, Printed}
 use Rattle.seeded.proofs.ListingLaws.{listings-short}
 use Rattle.seeds.specs.Loops.{longest-output, Ready, Begun}

@@ -13,8 +13,8 @@ use Rattle.refusal.proofs.VerdictLaws.{refused-false}
 use Rattle.number.specs.Numbers.{number-outcomes}
 use Rattle.layout.specs.declared.Header.{Header}
 use Rattle.text.specs.Laid.{Puts}
-use Rattle.lines.specs.Lines.{lines-by}
-use Rattle.lines.specs.Text.{text}
+use Rattle.listing_lines.specs.Lines.{lines-by}
+use Rattle.listing_lines.specs.Text.{text}
 use Rattle.generator.specs.Judgement.{seed-some}
 use Rattle.seeded.specs.Promise.{seed-run, RehearsedSeed}
 use Rattle.seeded.specs.Listings.{seed-lines}

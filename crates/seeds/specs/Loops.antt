@@ -6,7 +6,7 @@ use lib.ListN.{length}
 use Rattle.line.specs.Line.{table-length, outcomes-length}
 use Rattle.layout.specs.declared.Header.{Header}
 use Rattle.layout.specs.Layout.{header, table-wanted}
-use Rattle.sheet.specs.Loops.{SoundHeader}
+use Rattle.reader.specs.Loops.{SoundHeader}
 use Rattle.listing.specs.Theorems.{longest-listing}
 use Rattle.seeded.specs.Listings.{last-seed}
 

@@ -7,7 +7,7 @@ ghost use Rattle.io.specs.Counts.{Counts};
 ghost use Rattle.line.specs.Line.{largest-table};
 ghost use Rattle.layout.specs.Layout.{table-wanted};
 ghost use Rattle.text.specs.Laid.{Puts};
-ghost use Rattle.lines.specs.Text.{text};
+ghost use Rattle.listing_lines.specs.Text.{text};
 ghost use Rattle.seeded.specs.Listings.{last-seed, seed-lines, listings, Printed};
 ghost use Rattle.seeds.specs.Loops.{Seed, Ready, Begun, longest-output};
 use input::Input;
@@ -16,7 +16,7 @@ use libc::STDERR_FILENO;
 use libc::STDIN_FILENO;
 use libc::STDOUT_FILENO;
 use line::Line;
-use sheet::Reading;
+use reader::Reading;
 
 // A hundred of the longest listings (`Listings-short` of crate seeded).
 const LONGEST: usize = 45700;
@@ -52,7 +52,7 @@ fn list_seed(
     ensures { λ r. ⌜ Ready header (now (table .exit)) (now (log .exit)) (now (outcomes .exit)) × Puts (now (out .entry)) (now (out .exit)) at (text (seed-lines header seed)) r ⌝ }
 {
     seeded::rehearse(header, seed, table, log, outcomes);
-    lines::of_run(out, at, header, outcomes)
+    listing_lines::of_run(out, at, header, outcomes)
 }
 
 // The listings of the seeds 1 to 100, one after another.
@@ -100,10 +100,10 @@ fn list(sheet: &[u8], table: &mut [u8], log: &mut [u8], out: &mut [u8], terminal
     requires { ⌜ (length (now table) ≡ min (table-wanted (now sheet)) largest-table) × (length (now log) ≡ length (now table)) × (length (now out) ≡ longest-output) ⌝ }
     ensures { λ r. ⌜ Printed (now (sheet .entry)) (now (out .exit)) r ⌝ }
 {
-    let reading = sheet::read_bit(sheet, 0, table);
+    let reading = reader::read_bit(sheet, 0, table);
     match reading {
         Reading::Accepted(header) => list_header(header, sheet, table, log, out, terminal),
-        Reading::Refused(c) => lines::of_refusal(out, c.number()),
+        Reading::Refused(c) => listing_lines::of_refusal(out, c.number()),
     }
 }
 

@@ -1,6 +1,8 @@
--- What is shown of the calls' answers: a station's calls in a row. The statement has a name here, and proofs/Theorems.antt has the law that proves it.
+-- What is shown of the calls' answers: a station's calls in a row, and on the rows of a log. Each statement has a name here, and proofs/Theorems.antt has the law that
+-- proves it.
 use Prim.Native.Nat.{ℕ, suc, _+_, _<_}
 use mathlib.Core.Path.{_≡_}
+use mathlib.Core.Logic.{_↔_}
 use mathlib.Core.List.{List}
 use lib.ListN.{length}
 use Rattle.line.specs.Line.{from-0, rounds}
@@ -16,6 +18,7 @@ use Rattle.station.specs.declared.StationResult.the-variants as station-
 use Rattle.state.specs.Judgement.{opening-verdict}
 use Rattle.station.specs.Automaton.{station-in}
 use Rattle.station.specs.Answers.{open-answer, ballot-answer, advance-answer, result-answer}
+use Rattle.station.specs.Singly.{Singly, Automatic}
 
 -- what a station is opened with
 pub record Opening : Type 0 where
@@ -57,3 +60,9 @@ pub record InARow (o : Opening) (rows : ℕ → List ℕ) : Type 0 where
 abbrev pub Calls-in-a-row : Type 0
 Calls-in-a-row =
     (o : Opening) → opening-verdict (o .n) (o .t) (o .T) (o .sender) (o .own) (o .value) ≡ Accepted → (rows : ℕ → List ℕ) → InARow o rows
+
+-- a station that is opened with accepted numbers answers as a log and outcomes have it exactly if the automaton does what they have
+abbrev pub Singly-by-automaton : Type 0
+Singly-by-automaton =
+    (n t T sender : ℕ) (log outcomes : List ℕ) (i v : ℕ) → opening-verdict n t T sender (i + 1) v ≡ Accepted
+    → Singly n t T sender log outcomes i v ↔ Automatic n t T sender log outcomes i v

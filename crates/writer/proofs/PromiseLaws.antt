@@ -22,8 +22,8 @@ use Rattle.header.proofs.HeaderLaws.{length-accepts}
 use Rattle.layout.specs.declared.Header.{Header}
 use Rattle.layout.specs.Layout.{header, most-records}
 use Rattle.judgement.specs.Judgement.{header-length, verdict-to-8}
-use Rattle.sheet.specs.Loops.{SoundHeader}
-use Rattle.sheet.proofs.PromiseLaws.{opening-sound, opening-length}
+use Rattle.reader.specs.Loops.{SoundHeader}
+use Rattle.reader.proofs.PromiseLaws.{opening-sound, opening-length}
 use Rattle.text.specs.Laid.{laid}
 use Rattle.text.proofs.LaidLaws.{laid-append, laid-front}
 use Rattle.writer.specs.declared.Need.{Need}

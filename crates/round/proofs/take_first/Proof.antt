@@ -5,7 +5,7 @@ use Rattle.line.specs.Writing.{Each}
 use Rattle.line.proofs.LineLaws.{round-means}
 use Rattle.broadcast.specs.Exchange.{z-from}
 use Rattle.broadcast.specs.Station.{next, moved}
-use Rattle.stations.specs.Counts.{votes-for}
+use Rattle.all_stations.specs.Counts.{votes-for}
 use Rattle.column.specs.Column.{each-of}
 use Rattle.round.specs.Round.{Moves}
 use Rattle.round.proofs.RoundLaws.{all-of, z-made}

@@ -1,0 +1,69 @@
+-- `grade` meets its contract.
+use borrow.Author.Needs.{needs}
+use native.Mathlib.Omega.{arith}
+use Prim.Native.Nat.{_≤_, _-_}
+use mathlib.Core.Path.{_≡_, refl}
+use lib.ListN.{length, getD, length-set}
+use Rattle.line.specs.Writing.{Each}
+use Rattle.line.proofs.WritingLaws.{each-none, each-turn}
+use Rattle.broadcast.specs.Exchange.{for-y, grade-of}
+use Rattle.all_stations.proofs.grade.Statement.{statement}
+use Rattle.all_stations.proofs.grade.Tie as tie
+
+abbrev Inv-loop : tie.InvT-loop
+Inv-loop line zeros ones next₀ j₀ next j = (j ≤ 32) × (length next ≡ 32) × Each j next (λ k. grade-of (line .n) (line .t) (line .upper) (for-y (getD zeros k 0) (getD ones k 0)))
+
+abbrev μ-loop : tie.MeasureT-loop
+μ-loop line zeros ones next₀ j₀ next j = 32 - j
+
+loop-holds : tie.Need-loop-holds Inv-loop μ-loop
+loop-holds c = (omega arith, refl, each-none _ _)
+
+cast-k : tie.Need-cast-k Inv-loop μ-loop
+cast-k c = search needs
+
+array-read-grade : tie.Need-array-read-grade Inv-loop μ-loop
+array-read-grade c = search needs
+
+array-read-grade-2 : tie.Need-array-read-grade-2 Inv-loop μ-loop
+array-read-grade-2 c = search needs
+
+grade-requires : tie.Need-grade-requires Inv-loop μ-loop
+grade-requires c κs = search needs
+
+array-write-next : tie.Need-array-write-next Inv-loop μ-loop
+array-write-next c = search needs
+
+add-j : tie.Need-add-j Inv-loop μ-loop
+add-j c = search needs
+
+loop-less : tie.Need-loop-less Inv-loop μ-loop
+loop-less c = search needs
+
+loop-again : tie.Need-loop-again Inv-loop μ-loop
+loop-again c =
+    let a = c .before .before in
+    (omega arith, simp length-set (a .loop .inv .1), each-turn (a .loop .next) _ (a .loop .j) _ (omega (arith, a .loop .inv .1)) (a .loop .inv .2) (c .grade .ensures))
+
+returns : tie.Need-returns Inv-loop μ-loop
+returns c =
+    let a = c .before in
+    let e : a .loop .j ≡ 32 = omega arith in
+    rw e at (a .loop .inv .2)
+
+pub grade-spec : {M : Type 1} → statement M
+grade-spec =
+    tie.close
+    (tie.spec
+    Inv-loop
+    μ-loop
+    loop-holds
+    cast-k
+    array-read-grade
+    array-read-grade-2
+    grade-requires
+    array-write-next
+    add-j
+    loop-less
+    loop-again
+    returns)

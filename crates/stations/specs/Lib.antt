@@ -1,2 +1,0 @@
--- What crate stations needs beside the steps' definitions, which are crate broadcast's.
-pub mod Counts
