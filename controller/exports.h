@@ -99,6 +99,10 @@ enum {
  * table_len  W*R*n*n, with the n, the t and the w of the header; 294,912 at
  *            most
  *
+ * The header's numbers are taken from the sheet: n is sheet[0], t sheet[1], upper
+ * sheet[2], sender sheet[3], value sheet[4], w sheet[5], marks sheet[8] to
+ * sheet[11], low byte first. Look at sheet_len before you read them.
+ *
  * Refused: by 1; then by 15; then by the lowest of 2, 3, 4, 5, 6, 8; then 9 or
  * 10 on the way through the chain; then 11, 12 or 13, by the first record in the
  * order of the chain that is refused, the lowest of the three.
@@ -195,7 +199,7 @@ static inline uint32_t vembopu_records(uint64_t answer)
  * Generates the run tables of a noisy run: what the marked stations send is made
  * from a seed, so that two lines with one header have the same noisy run.
  *
- * header      as for vembopu_sheet_len; the sender and the value are judged, and
+ * header      as for vembopu_sheet_len; upper, sender and value are judged, and
  *             have no effect. Only read.
  * header_len  12
  * seed        any number but 0

@@ -1,6 +1,6 @@
 /*
  * The station's calls, the writer's, the generator and the checker written once
- * more, in C from documents 01 and 02 (Tickets 1 to 7), for the tests: the
+ * more, in C from documents 01 and 02 (requests 1 to 7), for the tests: the
  * judgement, the steps of a station that is accepted, the sheet that is written,
  * the tables that are generated, and the set of stations that broke the rules.
  * Shares no code with the library.
@@ -243,7 +243,7 @@ static inline uint64_t model_result(const struct call *c)
     return answer(0, bytes5(1, c->x, c->grade, c->grade < 2, c->garbled));
 }
 
-/* ---- The writer of run sheets: document 02, Tickets 1 and 5 ---- */
+/* ---- The writer of run sheets: document 02, requests 1 and 5 ---- */
 
 /* What the writer is handed; vembopu_sheet_len has no sheet. */
 struct writing {
@@ -359,7 +359,7 @@ static inline uint64_t model_write(const struct writing *w, uint8_t *sheet)
     return answer(0, records_of(w));
 }
 
-/* ---- The generator of noisy runs: document 02, Ticket 7 ---- */
+/* ---- The generator of noisy runs: document 02, request 7 ---- */
 
 struct generating {
     const uint8_t *header;
@@ -419,7 +419,7 @@ static inline int model_generate(const struct generating *g, uint8_t *table)
     return number;
 }
 
-/* ---- The checker of logs: document 02, Ticket 3 ---- */
+/* ---- The checker of logs: document 02, request 3 ---- */
 
 struct checking {
     int n, t, T, sender;

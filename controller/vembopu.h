@@ -12,7 +12,8 @@
  * The words:
  *
  *     bad       a station that at any time of a run, for whatever reason,
- *               doesn't keep to it; otherwise it is good
+ *               doesn't do what these calls tell it, or whose ballots to or from
+ *               a good one don't arrive in time; otherwise it is good
  *     value     a bit: 0 keeps the old recipe, 1 changes over; or one bit of a
  *               recipe's number
  *     round     each station sends at most one byte to all and receives what
@@ -114,9 +115,9 @@ enum {
     VEMBOPU_BAD_THRESHOLDS = 3,   /* t above upper, or t + 2*upper not
                                      below n */
     VEMBOPU_BAD_NUMBER = 4,       /* sender or own outside 1 to n */
-    VEMBOPU_BAD_VALUE = 5,        /* a number of 2 to the power w or above; a
-                                     station's value, or an unmarked station's
-                                     input, not 0 or 1 */
+    VEMBOPU_BAD_VALUE = 5,        /* a number of 2 to the power w or above (w 0
+                                     stands for 1); a station's value, or an
+                                     unmarked station's input, not 0 or 1 */
     VEMBOPU_BAD_MARKS = 6,        /* a mark beyond station n */
     VEMBOPU_BAD_STATE = 7,        /* round outside 1 to R + 1, value above 1, z
                                      or grade above 2, garbled not below round;
@@ -128,9 +129,9 @@ enum {
     VEMBOPU_CHAIN_LEAVES = 9,     /* the chain reaches an index above k */
     VEMBOPU_CHAIN_REPEATS = 10,   /* the chain reaches a record again */
     VEMBOPU_BAD_RECORD = 11,      /* round outside 1 to R, a station outside 1
-                                     to n, a bit not below w, or the last byte
-                                     not zero; or a bit to be read not below
-                                     w */
+                                     to n, a bit not below w (w 0 stands for
+                                     1), or the last byte not zero; or a bit to
+                                     be read not below w */
     VEMBOPU_UNMARKED_SENDER = 12, /* a record's from is not marked */
     VEMBOPU_DUPLICATE = 13,       /* an earlier chained record has the same
                                      bit, round, from and to */

@@ -388,7 +388,7 @@ def audit_troubles(folder):
 
 
 def audit_uses():
-    usage = r"usage: ./audit N T UPPER SENDER LOG OUTCOMES\n(?s:.*)\./- for one of that name(?s:.*)Exit status: 0 (?s:.*)"
+    usage = r"usage: ./audit N LOWER UPPER SENDER LOG OUTCOMES\n(?s:.*)\./- for one of that name(?s:.*)Exit status: 0 (?s:.*)"
     asked = Ran("audit", "--help")
     yield "audit --help", asked.status == 0 and re.fullmatch(usage, asked.out.decode()) and not asked.said
     wrong = {words: f"six words are wanted, and there are {len(words)}" for words in ((), LINE, (*LINE, FILES[0]), (*LINE, *FILES, "more"))}

@@ -148,8 +148,8 @@ def large():
 
 
 def recipe():
-    """Recipe 5 of eight: t 0, T 1, station 1 sends. Station 4 is bad: in bit 0 it tells station 2 zeros and the others ones, in bits 1 and 2 it keeps the rules.
-    All decide 5, and station 2 flags: its grade of bit 0 is 1, of the others 2."""
+    """Recipe 5 of eight: t 0, T 1, station 1 sends. Station 4 is bad: in bit 0 it tells station 2 zeros and the others ones, in bits 1 and 2 it
+    tells the others what a good one would. All decide 5, and station 2 flags: its grade of bit 0 is 1, of the others 2."""
     told = (0, 1, (1, 3)), (0, 0, (2,)), (1, 0, (1, 2, 3)), (2, 1, (1, 2, 3))
     return sheet_of(4, 0, 1, 1, 5, [4], [(r, 4, j, ballot, bit) for bit, ballot, to in told for r in (2, 3, 5, 6) for j in to], w=3)
 

@@ -1,4 +1,4 @@
-"""Document 01's steps with document 02's Tickets 2 to 7, for the tests: the graded exchange, the broadcast with its log, the broadcasts of a number's bits, the
+"""Document 01's steps with document 02's requests 2 to 7, for the tests: the graded exchange, the broadcast with its log, the broadcasts of a number's bits, the
 generator of noisy runs, the single station, and the checker of logs.
 
 Stations are counted from 0 and rounds from 1, as in the definitions of crate broadcast.
@@ -168,7 +168,7 @@ def log_of(rules, run, said):
 
 
 class Numbers:
-    """Ticket 5's own: where a bit's table stands, and a good station's outcome of a number from its outcomes of the bits, bit 0 first. An edit replaces one of
+    """Request 5's own: where a bit's table stands, and a good station's outcome of a number from its outcomes of the bits, bit 0 first. An edit replaces one of
     them."""
 
     # "The buffers hold the bits' tables one after another, bit 0 first"
@@ -206,7 +206,7 @@ def number_broadcast(runs, rules=Rules, numbers=Numbers):
 
 
 class Noise:
-    """Ticket 7's own: the state's steps, and which bytes of the tables are made of them. An edit replaces one of them."""
+    """Request 7's own: the state's steps, and which bytes of the tables are made of them. An edit replaces one of them."""
 
     # "a 32-bit state"
     states = 2**32
@@ -280,7 +280,7 @@ class Station:
 
 
 class Keeping:
-    """Ticket 3's own: who keeps the rules. The log is a run's table. An edit replaces one of them."""
+    """Request 3's own: who keeps the rules. The log is a run's table. An edit replaces one of them."""
 
     # "a value of its own"
     values = (0, 1)

@@ -72,7 +72,7 @@ def filler(w=0):
     return given(0, chained(call, [at_place(p, 7 * q % 255) for q, p in enumerate(place_numbers(call))]))
 
 
-# ---- document 01's cases, with Ticket 4's count, which is 0 in all of them
+# ---- document 01's cases, with request 4's count, which is 0 in all of them
 
 BAD = [255] * OUTCOME
 

@@ -1,4 +1,4 @@
-"""Document 01's reader of run sheets and document 02's writer (Ticket 1), of numbers of w bits (Ticket 5), and what its generator refuses (Ticket 7), for the
+"""Document 01's reader of run sheets and document 02's writer (request 1), of numbers of w bits (request 5), and what its generator refuses (request 7), for the
 tests, from the documents alone.
 
 A sheet is bytes. Stations and rounds keep the documents' numbers, from 1, and bits theirs, from 0.

@@ -72,13 +72,13 @@ impl Cause {
             Cause::Thresholds => "t is above T, or t + 2T is not below n",
             Cause::StationNumber => "the sender, or a station's own number, is outside 1 to n",
             Cause::Value => {
-                "the value is not below 2 to the power w, or that of a single station, or an unmarked station's \
-                 input to an exchange, is not 0 or 1"
+                "the value is 2 to the power w or above (w 0 stands for 1); or a single station's value, or an \
+                 unmarked station's input to an exchange, is not 0 or 1"
             }
             Cause::MarkBeyond => "a mark stands beyond station n",
             Cause::StationState => {
-                "a station's round is outside 1 to R + 1, its value above 1, its z or grade above 2, its count of \
-                 garbled rounds not below its round; or a ballot or row is wanted of a done station"
+                "a station's round is outside 1 to R + 1, its value above 1, its z or grade above 2, or its count \
+                 of garbled rounds not below its round; or a ballot or row is wanted of a done station"
             }
             Cause::Length => {
                 "a table, log, outcome, input, row or sheet to be written is not of its exact length"
@@ -86,8 +86,8 @@ impl Cause {
             Cause::IndexBeyond => "the chain reaches an index above k",
             Cause::ReachedAgain => "the chain reaches a record again",
             Cause::Record => {
-                "a record's round is outside 1 to R, a station outside 1 to n, its bit or the one to be read not \
-                 below w, or its last byte not zero"
+                "a record's round is outside 1 to R, a station outside 1 to n, its bit not below w (w 0 stands for \
+                 1), or its last byte not zero; or the bit asked for is not below w"
             }
             Cause::FromUnmarked => "a record is from a station that is not marked",
             Cause::Repeated => "an earlier record of the chain has the same bit, round, from and to",

@@ -21,9 +21,9 @@ usage: peer listing [SHEET]    the listing of a run sheet
        peer log [SHEET]        the run's log, as bytes; of a number the logs of its bits, bit 0's first
        peer outcomes [SHEET]   the run's outcomes, as bytes
        peer runs [RUNS]        what the program of crate stored_runs must print of stored runs
-       peer audit N T UPPER SENDER LOG OUTCOMES
+       peer audit N LOWER UPPER SENDER LOG OUTCOMES
                                the stations that broke the rules, by the files of one bit's log and of its
-                               outcomes
+                               outcomes; LOWER and UPPER are document 01's t and T
 A SHEET, TEXT or RUNS that isn't named, or is named -, is read from standard input. What is made goes to
 standard output.
 listing, rewrite, draw, log and outcomes take --seed N: the run is then the one that seed N gives to SHEET's

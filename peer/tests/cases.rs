@@ -16,7 +16,7 @@ fn thresholds(n: u8, t: u8, upper: u8) -> u8 {
     Line::new(n, t, upper).map_or_else(|cause| cause.number(), |_| 0)
 }
 
-/// As Ticket 4 has it.
+/// As request 4 has it.
 #[test]
 fn case_a() {
     let sheet = [4, 1, 1, 1, 1, 0, 0, 0, 8, 0, 0, 0];
@@ -24,7 +24,7 @@ fn case_a() {
     assert_eq!(listing(&sheet), "agree 4 1 1 1 9\n1 1 2 0 0\n2 1 2 0 0\n3 1 2 0 0\n4 - - - -\n");
 }
 
-/// As Ticket 6 has it.
+/// As request 6 has it.
 #[test]
 fn case_b() {
     let told = [record(1, 4, 1, 1), record(1, 4, 2, 0), record(1, 4, 3, 0)];

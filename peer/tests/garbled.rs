@@ -1,4 +1,4 @@
-//! The count of garbled rounds, from Ticket 4's sentences: which bytes are garbled, whose are expected, and that nothing else
+//! The count of garbled rounds, from request 4's sentences: which bytes are garbled, whose are expected, and that nothing else
 //! depends on it.
 
 mod common;

@@ -1,4 +1,4 @@
-//! The generator, from Ticket 7's sentences: its steps, who gets a ballot and in which order, refusals and their order, what is
+//! The generator, from request 7's sentences: its steps, who gets a ballot and in which order, refusals and their order, what is
 //! written of it and read back, and the listings of a header with seeds.
 
 mod common;
@@ -53,7 +53,7 @@ fn steps() {
     assert_eq!(step(0), 0);
 }
 
-/// The bytes in the order in which the ticket names them, each at the place that document 01 gives it.
+/// The bytes in the order in which the request names them, each at the place that document 01 gives it.
 fn by_place(header: &Header, seed: u32) -> Vec<u8> {
     let (n, rounds) = (usize::from(header.n), 3 * usize::from(header.t) + 6);
     let w = usize::from(header.w.max(1));

@@ -1,4 +1,4 @@
-//! Recipe numbers, from Ticket 5's sentences: widths, refusals and their order, the bits' tables and logs, what the outcomes are
+//! Recipe numbers, from request 5's sentences: widths, refusals and their order, the bits' tables and logs, what the outcomes are
 //! made of, and demands 2 and 3 of the number.
 
 mod common;

@@ -2,7 +2,7 @@
 ghost use mathlib.Core.Path.{_≡_};
 ghost use Prim.Native.Nat.{_+_, _*_, _<_, _≤_};
 ghost use lib.ListN.{length};
-ghost use Rattle.layout.specs.Layout.{byte, header, table-wanted, tables-wanted, first, records};
+ghost use Rattle.layout.specs.Layout.{header, table-wanted, tables-wanted, first, records};
 ghost use Rattle.layout.specs.Chain.{is-record};
 ghost use Rattle.layout.specs.Numbers.{numbers-from, no-numbers, record-at};
 use line::Line;
@@ -36,26 +36,19 @@ fn two(low: u8, high: u8) -> usize
     (low as usize) + 256 * (high as usize)
 }
 
-// A byte of the sheet.
-fn byte(sheet: &[u8], at: usize) -> u8
-    ensures { λ r. ⌜ r ≡ byte (now (sheet .entry)) at ⌝ }
-{
-    if at < sheet.len() { sheet[at] } else { 0 }
-}
-
 // The header's numbers.
 pub fn header_of(sheet: &[u8]) -> Header
     ensures { λ r. ⌜ r ≡ header (now (sheet .entry)) ⌝ }
 {
-    let low = two(byte(sheet, 8), byte(sheet, 9));
-    let high = two(byte(sheet, 10), byte(sheet, 11));
+    let low = two(slices::at(sheet, 8), slices::at(sheet, 9));
+    let high = two(slices::at(sheet, 10), slices::at(sheet, 11));
     Header {
-        n: byte(sheet, 0),
-        t: byte(sheet, 1),
-        upper: byte(sheet, 2),
-        sender: byte(sheet, 3),
-        value: byte(sheet, 4),
-        w: byte(sheet, 5),
+        n: slices::at(sheet, 0),
+        t: slices::at(sheet, 1),
+        upper: slices::at(sheet, 2),
+        sender: slices::at(sheet, 3),
+        value: slices::at(sheet, 4),
+        w: slices::at(sheet, 5),
         marks: (low as u32) + 65536 * (high as u32),
     }
 }
@@ -65,8 +58,8 @@ pub fn table_len(sheet: &[u8]) -> usize
     ensures { λ r. ⌜ r ≡ table-wanted (now (sheet .entry)) ⌝ }
 {
     let line = Line {
-        n: byte(sheet, 0),
-        t: byte(sheet, 1),
+        n: slices::at(sheet, 0),
+        t: slices::at(sheet, 1),
         upper: 0,
     };
     line.table_len()
@@ -77,18 +70,18 @@ pub fn tables_len(sheet: &[u8]) -> usize
     ensures { λ r. ⌜ r ≡ tables-wanted (now (sheet .entry)) ⌝ }
 {
     let line = Line {
-        n: byte(sheet, 0),
-        t: byte(sheet, 1),
+        n: slices::at(sheet, 0),
+        t: slices::at(sheet, 1),
         upper: 0,
     };
-    line.tables_len(byte(sheet, 5))
+    line.tables_len(slices::at(sheet, 5))
 }
 
 // The index of the first record, or 0.
 pub fn first(sheet: &[u8]) -> usize
     ensures { λ r. ⌜ r ≡ first (now (sheet .entry)) ⌝ }
 {
-    two(byte(sheet, 6), byte(sheet, 7))
+    two(slices::at(sheet, 6), slices::at(sheet, 7))
 }
 
 // k, the number of records that the sheet's length has room for.

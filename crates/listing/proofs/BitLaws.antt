@@ -3,18 +3,14 @@ use Prim.Native.Nat.{ℕ, suc, _+_, _-_, _≤_, _<_}
 use mathlib.Core.Path.{_≡_, refl, sym, ap, _∙_}
 use mathlib.Core.List.{List}
 use native.Mathlib.Omega.{arith}
-use native.Mathlib.Numerals.{add-one}
 use lib.ListN.{length}
 use Rattle.line.specs.Line.{outcomes-length}
 use Rattle.line.specs.Width.{bits}
 use Rattle.line.proofs.WidthLaws.{bits-some, part-size}
 use Rattle.refusal.specs.declared.cause.Verdict.the-variants.{Accepted}
 use Rattle.refusal.proofs.VerdictLaws.{both-accepted}
-use Rattle.broadcast.specs.Bytes.{log}
-use Rattle.broadcast.proofs.BytesLaws.{log-size}
-use Rattle.number.specs.Numbers.{NumberRun, bit-run, gathered, bit-outcomes}
-use Rattle.number.proofs.BufferLaws.{gathered-length}
-use Rattle.recipe.proofs.RunLaws.{bit-log, bit-gathered}
+use Rattle.number.specs.Numbers.{NumberRun, bit-run}
+use Rattle.recipe.proofs.RunLaws.{none-in-turn, one-more-in-turn}
 use Rattle.layout.specs.declared.Header.{Header}
 use Rattle.layout.specs.Layout.{header, table-wanted, tables-wanted}
 use Rattle.layout.specs.Chain.{Fate}
@@ -59,22 +55,6 @@ module _ (s : List ℕ) (f : Fate s) (v : verdict s f ≡ Accepted) where
       let a : bit-verdict s b (length table₀) (r .fate) ≡ Accepted = rw size (judged-either-way s (r .fate) b h ∙ same .0 (tables-wanted s) ∙ judged) in
       r .table-is ∙ rw (a, same .1) refl
 
-  -- a bit more
-  bit-rehearsed : (b : ℕ) → b < bits (header s .w) → (bytes bytes₁ results results₁ : List ℕ) → length bytes ≡ table-wanted s
-      → (1 ≤ b → results ≡ gathered (header s .n) (header s .marks) b (bit-outcomes (number-run s f))) → length results ≡ outcomes-length (header s .n)
-      → BitRehearsed (header s) b (bit-table s f b) bytes bytes₁ results results₁
-      → (bytes₁ ≡ log (bit-run (number-run s f) b)) × (results₁ ≡ gathered (header s .n) (header s .marks) (suc b) (bit-outcomes (number-run s f)))
-  unfolding bit-run
-  bit-rehearsed b h bytes bytes₁ results results₁ size so-far whole r =
-      let N = run (header s) (table-of s f) in (
-        bit-log N sound tables-long b h bytes results size so-far whole bytes₁ results₁ (r .answer) (r .rehearsed),
-        bit-gathered N sound tables-long b h bytes results size so-far whole bytes₁ results₁ (r .answer) (r .rehearsed),
-      )
-
-  bit-log-long : (b : ℕ) → length (log (bit-run (number-run s f) b)) ≡ table-wanted s
-  unfolding bit-run
-  bit-log-long b = log-size (bit-run (run (header s) (table-of s f)) b)
-
 -- ---- the bits, one after another
 
 module _ (s : List ℕ) (h : Header) (table bytes results : List ℕ) where
@@ -85,10 +65,7 @@ module _ (s : List ℕ) (h : Header) (table bytes results : List ℕ) where
     accepted = B .accepted;
     header-is = B .header-is;
     table-is = B .table-is;
-    log-whole = B .log-whole;
-    log-is = λ l. absurd (omega arith);
-    outcomes-whole = rw (B .header-is) at whole;
-    outcomes-are = λ l. absurd (omega arith);
+    in-turn = none-in-turn (number-run s (B .fate)) bytes results (B .log-whole) (rw (B .header-is) at whole);
   }
 
   -- its line has at most 32 stations
@@ -97,27 +74,19 @@ module _ (s : List ℕ) (h : Header) (table bytes results : List ℕ) where
 
   module _ (b : ℕ) (P : BitsRun s h b table bytes results) (more : b < bits (h .w)) (table₁ bytes₁ results₁ : List ℕ)
       (there : table₁ ≡ bit-table s (P .fate) b) (r : BitRehearsed h b table₁ bytes bytes₁ results results₁) where
-    within-it : b < bits (header s .w)
-    within-it = rw (P .header-is) at more
-
-    its-own : (bytes₁ ≡ log (bit-run (number-run s (P .fate)) b))
-        × (results₁ ≡ gathered (header s .n) (header s .marks) (suc b) (bit-outcomes (number-run s (P .fate))))
-    its-own =
-        bit-rehearsed s (P .fate) (P .accepted) b within-it bytes bytes₁ results results₁ (P .log-whole) (P .outcomes-are) (P .outcomes-whole)
-        (rw (P .header-is, there) at r)
-
     pub bit-run-more : BitsRun s h (b + 1) table₁ bytes₁ results₁
+    unfolding bit-run
     bit-run-more =
         let back : b + 1 - 1 ≡ b = omega arith in
+        let its-own = rw (P .header-is, there) at r in
         record {
           fate = P .fate;
           accepted = P .accepted;
           header-is = P .header-is;
           table-is = rw back there;
-          log-whole = ap length (its-own .0) ∙ bit-log-long s (P .fate) (P .accepted) b;
-          log-is = λ _. rw back (its-own .0);
-          outcomes-whole = ap length (its-own .1) ∙ gathered-length (header s .n) (header s .marks) (suc b) _;
-          outcomes-are = λ _. rw (add-one b) (its-own .1);
+          in-turn =
+              one-more-in-turn (number-run s (P .fate)) (sound s (P .fate) (P .accepted)) (tables-long s (P .fate) (P .accepted)) b (rw (P .header-is) at more)
+              bytes results bytes₁ results₁ (its-own .answer) (P .in-turn) (its-own .rehearsed);
         }
 
   -- the table has one bit's length

@@ -34,7 +34,7 @@ use Rattle.listing.proofs.BitLaws.{first-long}
 module _ (s : List ℕ) (h : Header) (table bytes results : List ℕ) (P : BitsRun s h (bits (h .w)) table bytes results) where
   its-outcomes : results ≡ number-outcomes (run (header s) (table-of s (P .fate)))
   unfolding number-outcomes
-  its-outcomes = P .outcomes-are (bits-some (h .w)) ∙ rw (P .header-is) refl
+  its-outcomes = P .in-turn .outcomes-are (bits-some (h .w)) ∙ rw (P .header-is) refl
 
   pub lists-run : (text₀ text₁ : List ℕ) (answer : ℕ) → Puts text₀ text₁ 0 (text (lines-by verdict.Accepted h results)) answer
       → ListsRun s table bytes text₀ text₁ answer
@@ -46,7 +46,7 @@ module _ (s : List ℕ) (h : Header) (table bytes results : List ℕ) (P : BitsR
         accepted = P .accepted;
         puts = rw (v, ← its-outcomes, ← P .header-is) p;
         table-is = P .table-is ∙ rw (P .header-is) refl;
-        log-is = P .log-is (bits-some (h .w)) ∙ rw (P .header-is) refl;
+        log-is = P .in-turn .log-is (bits-some (h .w)) ∙ rw (P .header-is) refl;
       }
 
 -- ---- a sheet, listed

@@ -1,17 +1,17 @@
 -- What the private functions of the listing do: for their contracts, and no part of what the public call promises.
-use Prim.Native.Nat.{ℕ, _-_, _≤_}
+use Prim.Native.Nat.{ℕ, _-_}
 use mathlib.Core.Path.{_≡_}
 use mathlib.Core.List.{List}
 use lib.ListN.{length}
-use Rattle.line.specs.Line.{outcomes-length}
-use Rattle.line.specs.Width.{bits, bit-of}
+use Rattle.line.specs.Width.{bit-of}
 use Rattle.refusal.specs.Cause.{written}
 use Rattle.refusal.specs.declared.cause.Verdict.{Verdict}
 use Rattle.refusal.specs.declared.cause.Verdict.the-variants.{Accepted}
 use Rattle.broadcast.specs.Bytes.{log}
-use Rattle.number.specs.Numbers.{bit-run, gathered, bit-outcomes}
+use Rattle.number.specs.Numbers.{bit-run}
 use Rattle.rehearsal.specs.Promise.{run-of}
 use Rattle.recipe.specs.Promise.{RehearsedBit}
+use Rattle.recipe.specs.Loops.{InTurn}
 use Rattle.layout.specs.declared.Header.{Header}
 use Rattle.layout.specs.Layout.{header, table-wanted}
 use Rattle.layout.specs.Chain.{Fate}
@@ -40,10 +40,7 @@ pub record BitsRun (s : List ℕ) (h : Header) (m : ℕ) (table bytes results : 
   pub accepted : verdict s fate ≡ Accepted
   pub header-is : h ≡ header s
   pub table-is : table ≡ bit-table s fate (m - 1)
-  pub log-whole : length bytes ≡ table-wanted s
-  pub log-is : 1 ≤ m → bytes ≡ log (bit-run (run (header s) (table-of s fate)) (m - 1))
-  pub outcomes-whole : length results ≡ outcomes-length (header s .n)
-  pub outcomes-are : 1 ≤ m → results ≡ gathered (header s .n) (header s .marks) m (bit-outcomes (run (header s) (table-of s fate)))
+  pub in-turn : InTurn (run (header s) (table-of s fate)) m bytes results
 
 -- what is listed of an accepted sheet, and its last bit's table and log
 pub record ListsRun (s table₁ log₁ text₀ text₁ : List ℕ) (answer : ℕ) : Type 0 where

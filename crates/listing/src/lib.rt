@@ -1,6 +1,6 @@
 // The listing of a run sheet: the sheet is read and rehearsed one bit after another, in one table and one log, and the text written into a lent buffer.
 ghost use mathlib.Core.Path.{_≡_};
-ghost use Prim.Native.Nat.{_+_, _≤_, _<_, min};
+ghost use Prim.Native.Nat.{_+_, _<_};
 ghost use lib.ListN.{length};
 ghost use Rattle.line.specs.Width.{bits};
 ghost use Rattle.listing.specs.Promise.{Lists};
@@ -9,13 +9,6 @@ use layout::Header;
 use line::Line;
 use line::width;
 use reader::Reading;
-
-// The length, or the buffer's where that is less.
-fn within(len: usize, most: usize) -> usize
-    ensures { λ r. ⌜ (r ≡ min len most) × (r ≤ len) × (r ≤ most) ⌝ }
-{
-    if len < most { len } else { most }
-}
 
 // Rehearses bit b of what was read, whose table is there, and gathers its outcomes with those of the bits below it.
 fn rehearse_bit(header: Header, b: u8, table: &[u8], log: &mut [u8], outcomes: &mut [u8])
@@ -119,7 +112,7 @@ pub fn list(sheet: &[u8], table: &mut [u8], log: &mut [u8], text: &mut [u8]) -> 
     ensures { λ r. ⌜ Lists (now (sheet .entry)) (now (table .entry)) (now (table .exit)) (now (log .entry)) (now (log .exit)) (now (text .entry)) (now (text .exit)) r ⌝ }
 {
     let len = layout::table_len(sheet);
-    let a = within(len, table.len());
-    let b = within(a, log.len());
+    let a = slices::shorter(len, table.len());
+    let b = slices::shorter(a, log.len());
     list_whole(sheet, &mut table[..b], &mut log[..b], text)
 }

@@ -54,13 +54,13 @@ fn station_line(out: &mut [u8], at: usize, outcomes: &[u8], i: u8) -> usize
 {
     let number = i + 1;
     let first = Line::OUTCOME * (i as usize);
-    let g = text::at(outcomes, first + 1);
+    let g = slices::at(outcomes, first + 1);
     if g == 255 {
         return bad_line(out, at, number);
     }
-    let v = text::at(outcomes, first);
-    let f = text::at(outcomes, first + 2);
-    let k = text::at(outcomes, first + 3);
+    let v = slices::at(outcomes, first);
+    let f = slices::at(outcomes, first + 2);
+    let k = slices::at(outcomes, first + 3);
     good_line(out, at, number, v, g, f, k)
 }
 

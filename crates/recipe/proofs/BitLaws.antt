@@ -1,13 +1,14 @@
 -- The promise of one bit, from the rehearsal beside it and what is gathered. Assumes nothing.
-use Prim.Native.Nat.{ℕ, _≤_, _<_}
+use Prim.Native.Nat.{ℕ, _≤_, _<_, min}
 use mathlib.Core.Path.{_≡_, refl, sym, ap, _∙_}
 use mathlib.Core.Bool.{Bool, true, false}
 use mathlib.Core.Logic.{_≢_}
 use mathlib.Core.List.{List}
 use native.Mathlib.Omega.{arith}
+use native.Mathlib.Nat.{min-eq-left, min-eq-right}
 use lib.Dec.{ltb}
 use lib.ListN.{length}
-use borrow.Author.Tests.{ltb-false, ltb-true, lt-ltb, le-ltb, ne-eqb, eq-eqb}
+use borrow.Author.Tests.{ltb-false, ltb-true, ne-eqb, eq-eqb}
 use Rattle.line.specs.Line.{outcomes-length, table-length}
 use Rattle.refusal.specs.Cause.{_or-else_}
 use Rattle.refusal.specs.declared.cause.Cause.{Cause}
@@ -23,33 +24,25 @@ use Rattle.rehearsal.specs.Promise.{rehearsal-verdict, verdict-of, Rehearsed}
 use Rattle.rehearsal.proofs.PromiseLaws.{playable}
 use Rattle.recipe.specs.Gathered.{added, with-bits-below}
 use Rattle.recipe.specs.Promise.{RehearsedBit}
-use Rattle.recipe.specs.Loops.{within, Alike}
+use Rattle.recipe.specs.Loops.{Alike}
 
 -- ---- a part within 129 bytes is judged as the outcomes are
-
-within-same : (size : ℕ) → size < 129 → within size ≡ size
-unfolding within
-within-same size h = rw (lt-ltb size 129 h)
-
-within-most : (size : ℕ) → 129 ≤ size → within size ≡ 129
-unfolding within
-within-most size h = rw (le-ltb size 129 h)
 
 wrong-length : (wanted found : ℕ) → found ≢ wanted → exact-length wanted found ≡ Refused Length
 unfolding exact-length
 wrong-length wanted found ne = refused-true _ (rw (ne-eqb found wanted ne))
 
 -- no outcomes of 32 stations have 129 bytes or more
-length-within : (n size : ℕ) → n ≤ 32 → exact-length (outcomes-length n) (within size) ≡ exact-length (outcomes-length n) size
+length-within : (n size : ℕ) → n ≤ 32 → exact-length (outcomes-length n) (min size 129) ≡ exact-length (outcomes-length n) size
 length-within n size h = go (ltb size 129) refl
   where
-    go : (c : Bool) → ltb size 129 ≡ c → exact-length (outcomes-length n) (within size) ≡ exact-length (outcomes-length n) size
-    go true e = rw (within-same size (ltb-true size 129 e))
+    go : (c : Bool) → ltb size 129 ≡ c → exact-length (outcomes-length n) (min size 129) ≡ exact-length (outcomes-length n) size
+    go true e = let l = ltb-true size 129 e in let m : min size 129 ≡ size = min-eq-left (omega arith) in rw m
     go false e =
         let l = ltb-false size 129 e in
-        rw (within-most size l) (wrong-length _ 129 (λ (q : 129 ≡ outcomes-length n). omega arith) ∙ sym (wrong-length _ size (λ (q : size ≡ outcomes-length n). omega arith)))
+        rw (min-eq-right l) (wrong-length _ 129 (λ (q : 129 ≡ outcomes-length n). omega arith) ∙ sym (wrong-length _ size (λ (q : size ≡ outcomes-length n). omega arith)))
 
-module _ (R : Run) (log : List ℕ) (part below : List ℕ) (size : length part ≡ within (length below)) where
+module _ (R : Run) (log : List ℕ) (part below : List ℕ) (size : length part ≡ min (length below) 129) where
   pub verdict-within : verdict-of R log part ≡ verdict-of R log below
   unfolding rehearsal-verdict
   verdict-within = go (header-verdict (R .n) (R .t) (R .T) (R .sender) (R .value) (R .marks)) refl
@@ -64,7 +57,7 @@ module _ (R : Run) (log : List ℕ) (part below : List ℕ) (size : length part 
 -- ---- the promise
 
 module _ (b : ℕ) (R : Run) (log₀ log₁ part₀ part₁ below : List ℕ) (answer : Verdict)
-    (later : 1 ≤ b) (size : length part₀ ≡ within (length below)) (P : Rehearsed R log₀ log₁ part₀ part₁ answer) where
+    (later : 1 ≤ b) (size : length part₀ ≡ min (length below) 129) (P : Rehearsed R log₀ log₁ part₀ part₁ answer) where
   as-outcomes : answer ≡ verdict-of R log₀ below
   as-outcomes = P .judged .answer-is ∙ verdict-within R log₀ part₀ below size
 

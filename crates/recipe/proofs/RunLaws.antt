@@ -26,7 +26,7 @@ use Rattle.broadcast.specs.Bytes.{log, outcomes, pick, outcome-byte, outcome-by
 use Rattle.broadcast.specs.Guarantees.{Good}
 use Rattle.broadcast.specs.Station.{at}
 use Rattle.broadcast.specs.Theorems.{value-at, grade-at}
-use Rattle.broadcast.proofs.BytesLaws.{tabulate-same}
+use Rattle.broadcast.proofs.BytesLaws.{tabulate-same, log-size}
 use Rattle.number.specs.Digits.{number-of, smallest, any, largest}
 use Rattle.number.specs.Numbers.{NumberRun, bit-run, logs, numbers, grades, flags, counts, stations, gathered, bit-outcomes, number-outcomes}
 use Rattle.number.proofs.DigitLaws.{number-below, smallest-low}
@@ -34,7 +34,7 @@ use Rattle.number.proofs.BufferLaws.{each, gathered-length, value-is, grade-is,
 use Rattle.rehearsal.specs.Promise.{run-of, rehearsal-verdict, verdict-of}
 use Rattle.recipe.specs.Gathered.{with-bit, joined, added-byte, added, with-bits-below}
 use Rattle.recipe.specs.Promise.{RehearsedBit}
-use Rattle.recipe.specs.Loops.{Playable, Played, Ran}
+use Rattle.recipe.specs.Loops.{Playable, Played, Ran, InTurn}
 
 -- ---- the outcomes of one bit more
 
@@ -126,7 +126,7 @@ module _ (N : NumberRun) (sound : SoundNumber (N .n) (N .t) (N .T) (N .sender) (
     taken : answer ≡ Accepted
     taken = Q .judged .answer-is ∙ bit-accepted
 
-    pub bit-log : part₁ ≡ log (bit-run N b)
+    bit-log : part₁ ≡ log (bit-run N b)
     bit-log = Q .log-is ∙ rw taken refl
 
     its-results : results₁ ≡ with-bits-below b (bit-outcomes N b) results
@@ -140,8 +140,33 @@ module _ (N : NumberRun) (sound : SoundNumber (N .n) (N .t) (N .T) (N .sender) (
         let some : 1 ≤ b = omega (arith, eqb-false b 0 e) in
         its-results ∙ rw (e, so-far some) (one-more N b narrow)
 
-    pub bit-gathered : results₁ ≡ gathered (N .n) (N .marks) (suc b) (bit-outcomes N)
+    bit-gathered : results₁ ≡ gathered (N .n) (N .marks) (suc b) (bit-outcomes N)
     bit-gathered = gathered-more (eqb b 0) refl
+
+-- ---- the bits in turn, with one log
+
+pub none-in-turn : (N : NumberRun) (bytes results : List ℕ) → length bytes ≡ table-length (N .n) (N .t) → length results ≡ outcomes-length (N .n)
+    → InTurn N 0 bytes results
+none-in-turn N bytes results a b =
+    record { log-whole = a; log-is = λ l. absurd (omega arith); outcomes-whole = b; outcomes-are = λ l. absurd (omega arith) }
+
+pub one-more-in-turn : (N : NumberRun) → SoundNumber (N .n) (N .t) (N .T) (N .sender) (N .number) (N .w) (N .marks)
+    → length (N .tables) ≡ tables-length (N .n) (N .t) (N .w) → (b : ℕ) → b < bits (N .w)
+    → (bytes results bytes₁ results₁ : List ℕ) (answer : Verdict)
+    → InTurn N b bytes results → RehearsedBit b (bit-run N b) bytes bytes₁ results results₁ answer → InTurn N (b + 1) bytes₁ results₁
+unfolding bit-run
+one-more-in-turn N sound whole b more bytes results bytes₁ results₁ answer P Q =
+    let back : b + 1 - 1 ≡ b = omega arith in
+    let its-log = bit-log N sound whole b more bytes results (P .log-whole) (P .outcomes-are) (P .outcomes-whole) bytes₁ results₁ answer Q in
+    let its-results = bit-gathered N sound whole b more bytes results (P .log-whole) (P .outcomes-are) (P .outcomes-whole) bytes₁ results₁ answer Q in
+    record {
+      log-whole = ap length its-log ∙ log-size (bit-run N b);
+      log-is = λ _. rw back its-log;
+      outcomes-whole = ap length its-results ∙ gathered-length (N .n) (N .marks) (suc b) (bit-outcomes N);
+      outcomes-are = λ _. rw (add-one b) its-results;
+    }
+
+-- ---- with logs for all bits
 
 module _ (N : NumberRun) (logs₀ outcomes₀ : List ℕ) (ready : Playable N logs₀ outcomes₀) where
   module _ (b : ℕ) (more : b < bits (N .w)) (bytes results : List ℕ) (P : Played N b bytes results) where

@@ -1,18 +1,13 @@
 -- What the private functions do: for their contracts, and no part of what the public calls promise.
-use Prim.Native.Nat.{ℕ, _+_, _*_, _≤_, _<_}
+use Prim.Native.Nat.{ℕ, _+_, _-_, _*_, _≤_, _<_}
 use mathlib.Core.Path.{_≡_}
 use mathlib.Core.List.{List}
-use lib.Dec.{ltb}
 use lib.ListN.{length, getD, set}
-use Rattle.line.specs.Count.{if_then_else_}
 use Rattle.line.specs.Line.{table-length, outcome-size, outcomes-length}
 use Rattle.line.specs.Width.{bits, tables-length}
 use Rattle.header.specs.Header.{SoundNumber}
-use Rattle.number.specs.Numbers.{NumberRun, logs, gathered, bit-outcomes, number-outcomes}
-
--- the length, at most one byte more than the most outcomes
-unfoldable pub within : ℕ → ℕ
-within size = if ltb size 129 then size else 129
+use Rattle.broadcast.specs.Bytes.{log}
+use Rattle.number.specs.Numbers.{NumberRun, bit-run, logs, gathered, bit-outcomes, number-outcomes}
 
 -- outcomes of m stations, and a part as long
 pub record Alike (m : ℕ) (part outcomes : List ℕ) : Type 0 where
@@ -42,3 +37,12 @@ pub record Played (N : NumberRun) (b : ℕ) (bytes results : List ℕ) : Type 0 
 pub record Ran (N : NumberRun) (bytes results : List ℕ) : Type 0 where
   pub logs-are : bytes ≡ logs N
   pub outcomes-are : results ≡ number-outcomes N
+
+-- ---- one bit after another with one log
+
+-- m bits are rehearsed: the log is the last one's, and the outcomes are gathered
+pub record InTurn (N : NumberRun) (m : ℕ) (bytes results : List ℕ) : Type 0 where
+  pub log-whole : length bytes ≡ table-length (N .n) (N .t)
+  pub log-is : 1 ≤ m → bytes ≡ log (bit-run N (m - 1))
+  pub outcomes-whole : length results ≡ outcomes-length (N .n)
+  pub outcomes-are : 1 ≤ m → results ≡ gathered (N .n) (N .marks) m (bit-outcomes N)

@@ -1,11 +1,11 @@
 // The rehearsal of a recipe number: a broadcast for each of its bits, one after another, and their outcomes gathered.
 ghost use mathlib.Core.Path.{_≡_};
-ghost use Prim.Native.Nat.{_≤_};
+ghost use Prim.Native.Nat.{_≤_, min};
 ghost use lib.ListN.{length};
 ghost use Rattle.line.specs.Width.{bit-of};
 ghost use Rattle.rehearsal.specs.Promise.{run-of};
 ghost use Rattle.recipe.specs.Promise.{number-run-of, number-rehearsal-verdict, RehearsedBit, RehearsedRecipe};
-ghost use Rattle.recipe.specs.Loops.{within, Playable, Ran};
+ghost use Rattle.recipe.specs.Loops.{Playable, Ran};
 use line::Line;
 use line::width;
 use refusal::cause::Verdict;
@@ -14,13 +14,6 @@ mod gather;
 
 // One byte more than the most outcomes: with so many, outcomes of a wrong length are refused as such.
 const PART: usize = Line::LARGEST_OUTCOMES + 1;
-
-// The length, or that of `PART` where this is less.
-fn within(len: usize) -> usize
-    ensures { λ r. ⌜ (r ≡ within len) × (r ≤ 129) ⌝ }
-{
-    if len < PART { len } else { PART }
-}
 
 // Bit b of a number above bit 0: its outcomes, which come into the part, are gathered with those of the bits below it.
 fn bit_beside(
@@ -34,7 +27,7 @@ fn bit_beside(
     part: &mut [u8],
     outcomes: &mut [u8],
 ) -> Verdict
-    requires { ⌜ (1 ≤ b) × (length (now part) ≡ within (length (now outcomes))) ⌝ }
+    requires { ⌜ (1 ≤ b) × (length (now part) ≡ min (length (now outcomes)) 129) ⌝ }
     ensures { λ r. ⌜ RehearsedBit b (run-of (line .n) (line .t) (line .upper) sender value marks (now (table .entry))) (now (log .entry)) (now (log .exit)) (now (outcomes .entry)) (now (outcomes .exit)) r ⌝ }
 {
     let verdict = rehearsal::rehearse(line, sender, value, marks, table, log, part);
@@ -63,7 +56,7 @@ pub fn bit(
         return rehearsal::rehearse(line, sender, value, marks, table, log, outcomes);
     }
     let mut part = [0u8; PART];
-    let m = within(outcomes.len());
+    let m = slices::shorter(outcomes.len(), PART);
     bit_beside(
         line,
         sender,

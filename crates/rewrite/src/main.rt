@@ -20,18 +20,6 @@ use writer::Need;
 // The longest sheet, of 4,096 records.
 const LONGEST: usize = 32780;
 
-// The length of the tables of all bits, or the largest tables' where that is less.
-fn room(sheet: &[u8]) -> usize
-    ensures { λ r. ⌜ (r ≡ min (tables-wanted (now (sheet .entry))) largest-tables) × (r ≤ largest-tables) ⌝ }
-{
-    let len = layout::tables_len(sheet);
-    if len < Line::LARGEST_TABLES {
-        len
-    } else {
-        Line::LARGEST_TABLES
-    }
-}
-
 // Writes a sheet that nothing refuses at the start of the output.
 fn write(header: &[u8], table: &[u8], out: &mut [u8]) -> usize
     requires { ⌜ (before-buffer (now header) (now table) ≡ Accepted) × (length (now out) ≡ 32780) ⌝ }
@@ -64,7 +52,7 @@ fn rewritten(sheet: &[u8], out: &mut [u8; LONGEST]) -> usize
     ensures { λ r. ⌜ Rewritten (now (sheet .entry)) (now (out .exit)) r × Counts r (now (out .exit)) ⌝ }
 {
     let mut table = [255; Line::LARGEST_TABLES];
-    let len = room(sheet);
+    let len = slices::shorter(layout::tables_len(sheet), Line::LARGEST_TABLES);
     rewrite(sheet, &mut table[..len], out)
 }
 

@@ -1,23 +1,20 @@
 -- Laws of a generated run that is rehearsed one bit after another in one table and one log. Assumes nothing.
-use Prim.Native.Nat.{ℕ, suc, _+_, _-_, _*_, _≤_, _<_}
+use Prim.Native.Nat.{ℕ, _+_, _-_, _*_, _≤_, _<_}
 use mathlib.Core.Path.{_≡_, sym, ap, _∙_}
 use mathlib.Core.Bool.{true}
 use mathlib.Core.List.{List}
 use native.Mathlib.Omega.{arith}
-use native.Mathlib.Numerals.{add-one}
 use native.Mathlib.Nat.{mul-mod-left}
 use lib.ListN.{length}
 use Rattle.line.specs.Line.{rounds, table-length, outcomes-length}
 use Rattle.line.specs.Width.{bits, bit-of, part-of}
 use Rattle.line.proofs.WidthLaws.{bits-some, part-size}
 use Rattle.refusal.specs.declared.cause.Verdict.{Verdict}
-use Rattle.broadcast.specs.Bytes.{log}
-use Rattle.broadcast.proofs.BytesLaws.{log-size}
-use Rattle.number.specs.Numbers.{bit-run, gathered, bit-outcomes, number-outcomes}
-use Rattle.number.proofs.BufferLaws.{gathered-length}
+use Rattle.number.specs.Numbers.{bit-run, number-outcomes}
 use Rattle.rehearsal.specs.Promise.{run-of}
 use Rattle.recipe.specs.Promise.{RehearsedBit}
-use Rattle.recipe.proofs.RunLaws.{bit-log, bit-gathered}
+use Rattle.recipe.specs.Loops.{InTurn}
+use Rattle.recipe.proofs.RunLaws.{none-in-turn, one-more-in-turn}
 use Rattle.layout.specs.declared.Header.{Header}
 use Rattle.reader.specs.Loops.{SoundHeader}
 use Rattle.listing_lines.specs.Lines.{run}
@@ -35,15 +32,13 @@ module _ (h : Header) (seed : ℕ) (table bytes results : List ℕ) where
   -- before the first
   pub bits-begin : SoundHeader h → length table ≡ table-length (h .n) (h .t) → length bytes ≡ table-length (h .n) (h .t)
       → length results ≡ outcomes-length (h .n) → BitsRun h seed 0 seed table bytes results
+  unfolding seed-run
   bits-begin sound a b c = record {
     sound = sound;
     state-is = state-first-bit h seed;
     table-whole = a;
-    log-whole = b;
-    outcomes-whole = c;
     table-is = λ l. absurd (omega arith);
-    log-is = λ l. absurd (omega arith);
-    outcomes-are = λ l. absurd (omega arith);
+    in-turn = none-in-turn (run h (generated h seed)) bytes results b c;
   }
 
   -- a bit more
@@ -66,17 +61,10 @@ module _ (h : Header) (seed : ℕ) (table bytes results : List ℕ) where
       unfolding bit-run
       its-run = rw its-table at R
 
-      its-log : bytes₁ ≡ log (bit-run (seed-run h seed) b)
+      its-turn : InTurn (seed-run h seed) (b + 1) bytes₁ results₁
       unfolding seed-run
-      its-log = bit-log (run h (generated h seed)) (P .sound) (generated-length h seed) b more bytes results (P .log-whole) (P .outcomes-are) (P .outcomes-whole) bytes₁ results₁ answer its-run
-
-      its-outcomes : results₁ ≡ gathered (h .n) (h .marks) (suc b) (bit-outcomes (seed-run h seed))
-      unfolding seed-run
-      its-outcomes = bit-gathered (run h (generated h seed)) (P .sound) (generated-length h seed) b more bytes results (P .log-whole) (P .outcomes-are) (P .outcomes-whole) bytes₁ results₁ answer its-run
-
-      log-long : length bytes₁ ≡ table-length (h .n) (h .t)
-      unfolding seed-run bit-run
-      log-long = ap length its-log ∙ log-size (bit-run (run h (generated h seed)) b)
+      its-turn =
+          one-more-in-turn (run h (generated h seed)) (P .sound) (generated-length h seed) b more bytes results bytes₁ results₁ answer (P .in-turn) its-run
 
       pub bit-more : BitsRun h seed (b + 1) left table₁ bytes₁ results₁
       bit-more =
@@ -85,11 +73,8 @@ module _ (h : Header) (seed : ℕ) (table bytes results : List ℕ) where
             sound = P .sound;
             state-is = its-state;
             table-whole = ap length its-table ∙ part-size (table-length (h .n) (h .t)) (generated h seed) b (bits (h .w)) more (generated-length h seed);
-            log-whole = log-long;
-            outcomes-whole = ap length its-outcomes ∙ gathered-length (h .n) (h .marks) (suc b) _;
             table-is = λ _. rw back its-table;
-            log-is = λ _. rw back its-log;
-            outcomes-are = λ _. rw (add-one b) its-outcomes;
+            in-turn = its-turn;
           }
 
   -- after the last
@@ -97,4 +82,4 @@ module _ (h : Header) (seed : ℕ) (table bytes results : List ℕ) where
   unfolding last-table last-log number-outcomes seed-run
   bits-end state P =
       let some = bits-some (h .w) in
-      record { table-is = P .table-is some; log-is = P .log-is some; outcomes-are = P .outcomes-are some }
+      record { table-is = P .table-is some; log-is = P .in-turn .log-is some; outcomes-are = P .in-turn .outcomes-are some }

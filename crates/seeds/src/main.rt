@@ -107,25 +107,13 @@ fn list(sheet: &[u8], table: &mut [u8], log: &mut [u8], out: &mut [u8], terminal
     }
 }
 
-// The length of one bit's table, or the largest table's where that is less.
-fn room(sheet: &[u8]) -> usize
-    ensures { λ r. ⌜ (r ≡ min (table-wanted (now (sheet .entry))) largest-table) × (r ≤ largest-table) ⌝ }
-{
-    let len = layout::table_len(sheet);
-    if len < Line::LARGEST_TABLE {
-        len
-    } else {
-        Line::LARGEST_TABLE
-    }
-}
-
 // All that is printed of a sheet, at the start of the output: one table and one log serve all bits of all runs.
 fn listed(sheet: &[u8], out: &mut [u8; LONGEST], terminal: bool) -> usize
     ensures { λ r. ⌜ Printed (now (sheet .entry)) (now (out .exit)) r × Counts r (now (out .exit)) ⌝ }
 {
     let mut table = [255; 36864];
     let mut log = [255; 36864];
-    let len = room(sheet);
+    let len = slices::shorter(layout::table_len(sheet), Line::LARGEST_TABLE);
     list(sheet, &mut table[..len], &mut log[..len], out, terminal)
 }
 

@@ -59,7 +59,7 @@ pub(crate) fn rehearsal(code: u8, log: &[u8], outcomes: &[u8]) {
 fn bytes(list: &[u8]) {
     let mut i: usize = 0;
     while i < list.len() {
-        number(text::at(list, i) as u64);
+        number(slices::at(list, i) as u64);
         i += 1;
     }
 }
@@ -69,7 +69,7 @@ fn checksum(list: &[u8]) -> u64 {
     let mut sum: u64 = 0;
     let mut i: usize = 0;
     while i < list.len() {
-        sum = (sum % 4294967296 * 31 + text::at(list, i) as u64 + 1) % 4294967296;
+        sum = (sum % 4294967296 * 31 + slices::at(list, i) as u64 + 1) % 4294967296;
         i += 1;
     }
     sum

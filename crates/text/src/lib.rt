@@ -3,16 +3,8 @@
 ghost use mathlib.Core.Path.{_≡_};
 ghost use mathlib.Core.List.{[], _∷_};
 ghost use Prim.Native.Nat.{_<_};
-ghost use lib.ListN.{getD};
 ghost use Rattle.text.specs.Decimal.{space, digit, numeral};
 ghost use Rattle.text.specs.Laid.{after, Puts};
-
-// The byte at a place, 0 past the end.
-pub fn at(bytes: &[u8], place: usize) -> u8
-    ensures { λ r. ⌜ r ≡ getD (now (bytes .entry)) place 0 ⌝ }
-{
-    if place < bytes.len() { bytes[place] } else { 0 }
-}
 
 // The place after one byte.
 fn next(at: usize) -> usize

@@ -1,5 +1,5 @@
 //! The thresholds and letters of a run, in a planner's words: document 01, "The graded exchange" and "The
-//! broadcast", with Tickets 2, 4, 5 and 6 of document 02.
+//! broadcast", with requests 2, 4, 5 and 6 of document 02.
 
 use super::is_number;
 use crate::line::Line;

@@ -10,29 +10,29 @@ use Rattle.listing.proofs.list.Tie as tie
 table-len-requires : tie.Need-table-len-requires
 table-len-requires c κs = search needs
 
-within-requires : tie.Need-within-requires
-within-requires c κs = search needs
+shorter-requires : tie.Need-shorter-requires
+shorter-requires c κs = search needs
 
-within-requires-2 : tie.Need-within-requires-2
-within-requires-2 c κs = search needs
+shorter-requires-2 : tie.Need-shorter-requires-2
+shorter-requires-2 c κs = search needs
 
 slice-relend-prefix-list-whole : tie.Need-slice-relend-prefix-list-whole
 slice-relend-prefix-list-whole c = search needs
 
 slice-aggregate-list-whole : tie.Need-slice-aggregate-list-whole
 slice-aggregate-list-whole c =
-    sym (length-take-le _ _ (le-trans (c .before .within2 .ensures .1) (c .before .before .within .ensures .2)))
+    sym (length-take-le _ _ (le-trans (c .before .shorter2 .ensures .1) (c .before .before .shorter .ensures .2)))
 
 slice-relend-prefix-list-whole-2 : tie.Need-slice-relend-prefix-list-whole-2
 slice-relend-prefix-list-whole-2 c = search needs
 
 slice-aggregate-list-whole-2 : tie.Need-slice-aggregate-list-whole-2
-slice-aggregate-list-whole-2 c = sym (length-take-le _ _ (c .before .before .within2 .ensures .2))
+slice-aggregate-list-whole-2 c = sym (length-take-le _ _ (c .before .before .shorter2 .ensures .2))
 
 list-whole-requires : tie.Need-list-whole-requires
 list-whole-requires c κs =
-    length-take-le _ _ (c .before .before .before .within2 .ensures .2)
-    ∙ sym (length-take-le _ _ (le-trans (c .before .before .before .within2 .ensures .1) (c .before .before .before .before .within .ensures .2)))
+    length-take-le _ _ (c .before .before .before .shorter2 .ensures .2)
+    ∙ sym (length-take-le _ _ (le-trans (c .before .before .before .shorter2 .ensures .1) (c .before .before .before .before .shorter .ensures .2)))
 
 same-length : tie.Need-same-length
 same-length c = search needs
@@ -45,8 +45,8 @@ same-length-3 c = search needs
 
 returns : tie.Need-returns
 returns c =
-    let a = c .before .before .before .before .before .before .before .before .before .before .before .within .ensures in
-    let b = c .before .before .before .before .before .before .before .before .before .before .within2 .ensures in
+    let a = c .before .before .before .before .before .before .before .before .before .before .before .shorter .ensures in
+    let b = c .before .before .before .before .before .before .before .before .before .before .shorter2 .ensures in
     let w = c .before .before .before .before .before .before .before .before .before .before .before .before .table-len .ensures in
     lists-parts _ _ _ _ _ _ _ _ _ _ (le-trans (b .1) (a .2)) (b .2) (rw (← w) (a .0)) (b .0) (c .before .before .before .before .before .before .list-whole .kept .1 .0) (c .before .before .before .before .before .before .list-whole .kept .1 .1 .0) (c .before .before .before .before .before .before .list-whole .ensures)
 
@@ -55,8 +55,8 @@ list-spec =
     tie.close
     (tie.spec
     table-len-requires
-    within-requires
-    within-requires-2
+    shorter-requires
+    shorter-requires-2
     slice-relend-prefix-list-whole
     slice-aggregate-list-whole
     slice-relend-prefix-list-whole-2

@@ -26,19 +26,19 @@ returns c =
     let i = r .before .before .before in
     first _ _ _ _ _ _ _ (i .if1 .taken) (rw (i .before .bit .ensures) at (r .rehearse .ensures))
 
-within-requires : tie.Need-within-requires
-within-requires c κs = search needs
+shorter-requires : tie.Need-shorter-requires
+shorter-requires c κs = search needs
 
 array-borrow-prefix-part : tie.Need-array-borrow-prefix-part
 array-borrow-prefix-part c = search needs
 
 slice-aggregate-bit-beside : tie.Need-slice-aggregate-bit-beside
-slice-aggregate-bit-beside c = sym (length-take-le _ (replicate 129 0) (c .before .before .within .ensures .1))
+slice-aggregate-bit-beside c = sym (length-take-le _ (replicate 129 0) (c .before .before .shorter .ensures .2))
 
 bit-beside-requires : tie.Need-bit-beside-requires
 bit-beside-requires c κs =
-    let w = c .before .before .before .within in
-    (omega (arith, c .before .before .before .before .if1 .left), length-take-le _ (replicate 129 0) (w .ensures .1) ∙ w .ensures .0)
+    let w = c .before .before .before .shorter in
+    (omega (arith, c .before .before .before .before .if1 .left), length-take-le _ (replicate 129 0) (w .ensures .2) ∙ w .ensures .0)
 
 same-length-3 : tie.Need-same-length-3
 same-length-3 c = search needs
@@ -60,7 +60,7 @@ bit-spec =
     same-length
     same-length-2
     returns
-    within-requires
+    shorter-requires
     array-borrow-prefix-part
     slice-aggregate-bit-beside
     bit-beside-requires

@@ -42,10 +42,10 @@ same-length : tie.Need-same-length Inv-loop μ-loop
 same-length c = c .before .loop .inv .1 .table-whole ∙ sym (c .before .before .before .before .before .before .pre .table-whole)
 
 same-length-2 : tie.Need-same-length-2 Inv-loop μ-loop
-same-length-2 c = c .before .loop .inv .1 .log-whole ∙ sym (c .before .before .before .before .before .before .pre .log-whole)
+same-length-2 c = c .before .loop .inv .1 .in-turn .log-whole ∙ sym (c .before .before .before .before .before .before .pre .in-turn .log-whole)
 
 same-length-3 : tie.Need-same-length-3 Inv-loop μ-loop
-same-length-3 c = c .before .loop .inv .1 .outcomes-whole ∙ sym (c .before .before .before .before .before .before .pre .outcomes-whole)
+same-length-3 c = c .before .loop .inv .1 .in-turn .outcomes-whole ∙ sym (c .before .before .before .before .before .before .pre .in-turn .outcomes-whole)
 
 returns : tie.Need-returns Inv-loop μ-loop
 returns c =

@@ -2,8 +2,8 @@
 use borrow.Author.Needs.{needs}
 use mathlib.Core.Path.{refl, sym}
 use lib.ListN.{List·getD-eq-default}
-use Rattle.text.proofs.at.Statement.{statement}
-use Rattle.text.proofs.at.Tie as tie
+use Rattle.slices.proofs.at.Statement.{statement}
+use Rattle.slices.proofs.at.Tie as tie
 
 shared-slice-read-result : tie.Need-shared-slice-read-result
 shared-slice-read-result c = search needs
