@@ -1,17 +1,18 @@
 -- Demand 3 of the broadcast, from Definition 6 of its exchanges. The argument is that of source 001, Theorem 1. Assumes nothing.
 use Prim.Native.Nat.{ℕ, zero, suc, _+_, _≤_, _<_}
 use mathlib.Core.Path.{_≡_, refl, sym, ap, _∙_}
-use mathlib.Core.Logic.{_⊎_, inl, inr, _≢_}
+use mathlib.Core.Logic.{_⊎_, inl, inr, ⊎-elim, _≢_}
 use mathlib.Core.Bool.{Bool, true, false, not, true≢false}
 use native.Mathlib.Omega.{arith}
 use native.Mathlib.Decide.{le-ind}
 use native.Mathlib.Nat.{lt-of-not-le, le-of-eq, le-antisymm, eq-zero-or-pos}
-use borrow.Author.Tests.{eqb-true, eqb-false}
+use borrow.Author.Tests.{eqb-true}
 use lib.Dec.{eqb}
+use Rattle.line.specs.Count.{count}
 use Rattle.line.specs.Line.{Fits}
 use Rattle.line.specs.Marks.{faults}
 use Rattle.line.specs.Ballot.{sender-value, read-king}
-use Rattle.line.proofs.CountLaws.{mono, widen, witness}
+use Rattle.line.proofs.CountLaws.{mono, same-or-not, widen, witness}
 use Rattle.line.proofs.BallotLaws.{sender-value-bit, sender-value-keeps}
 use Rattle.broadcast.specs.Exchange.{Setting, sends, z, flag-of}
 use Rattle.broadcast.specs.Broadcast.{obey, phases, first-round, x-after, z-after, y-after, grade-after, value-of, final-grade, final-flag}
@@ -142,43 +143,43 @@ module _ (S : Setting) (fits : Fits (S .n) (S .t) (S .T)) (sender-from-0 value :
     flag-soundness = λ i gi e. lt-of-not-le (λ f. omega (arith, quiet f i gi));
   }
 
+-- two numbers that can't differ are one
+same-unless : (x y : ℕ) → (x ≢ y → ⊥) → x ≡ y
+same-unless x y h = ⊎-elim (λ e. e) (λ ne. absurd (h ne)) (same-or-not x y)
+
+-- where no good station shows it, at most the bad ones do
+only-bad : (n : ℕ) (shows bad : ℕ → Bool) → ((k : ℕ) → Good n bad k → shows k ≡ true → ⊥) → count n shows ≤ faults n bad
+only-bad n shows bad none = mono n shows bad (λ k h. go k h (bad k) refl)
+  where
+    go : (k : ℕ) → k < n → (b : Bool) → bad k ≡ b → shows k ≡ true → b ≡ true
+    go k h true e shown = refl
+    go k h false e shown = absurd (none k (h, e) shown)
+
 -- two good stations that decide differently would have the quiet one raise its flag
 pub unflagged-agree : Unflagged-agree
-unflagged-agree values n t T bad s v D F P f k gk quiet i j gi gj = go (eqb (D i) (D j)) refl
-  where
-    go : (same : Bool) → eqb (D i) (D j) ≡ same → D i ≡ D j
-    go true e = eqb-true (D i) (D j) e
-    go false e = absurd (quiet (P .consistency-detection f i j gi gj (eqb-false (D i) (D j) e) k gk))
+unflagged-agree values n t T bad s v D F P f k gk quiet i j gi gj =
+    same-unless (D i) (D j) (λ differ. quiet (P .consistency-detection f i j gi gj differ k gk))
 
 -- and so would every station that shows no flag be bad, which are too many
 pub enough-unflagged : Enough-unflagged
-enough-unflagged values n t T bad s v D F P f enough i j gi gj = go (eqb (D i) (D j)) refl
-  where
-    raised : D i ≢ D j → (k : ℕ) → k < n → (b : Bool) → bad k ≡ b → not (eqb (F k) 1) ≡ true → b ≡ true
-    raised differ k h true e quiet = refl
-    raised differ k h false e quiet = absurd (true≢false (sym (rw (P .consistency-detection f i j gi gj differ k (h, e)) at quiet)))
-
-    go : (same : Bool) → eqb (D i) (D j) ≡ same → D i ≡ D j
-    go true e = eqb-true (D i) (D j) e
-    go false e =
-        absurd (omega (arith, f, enough, mono n (λ k. not (eqb (F k) 1)) bad (λ k h. raised (eqb-false (D i) (D j) e) k h (bad k) refl)))
+enough-unflagged values n t T bad s v D F P f enough i j gi gj =
+    same-unless (D i) (D j)
+    (λ differ.
+        let few = only-bad n (λ k. not (eqb (F k) 1)) bad (λ k g quiet. true≢false (sym (rw (P .consistency-detection f i j gi gj differ k g) at quiet))) in
+        omega (arith, f, enough, few))
 
 -- with f at most t no good station flags, so every station that shows a flag would be bad
 pub enough-flags : Enough-flags
-enough-flags values n t T bad s v D F P enough = lt-of-not-le (λ f. omega (arith, f, enough, mono n (λ k. eqb (F k) 1) bad (λ k h. liar f k h (bad k) refl)))
-  where
-    liar : faults n bad ≤ t → (k : ℕ) → k < n → (b : Bool) → bad k ≡ b → eqb (F k) 1 ≡ true → b ≡ true
-    liar f k h true e flagged = refl
-    liar f k h false e flagged = absurd (true≢false (sym (rw (P .no-flag f k (h, e)) at flagged)))
+enough-flags values n t T bad s v D F P enough =
+    lt-of-not-le
+    (λ f.
+        let few = only-bad n (λ k. eqb (F k) 1) bad (λ k g flagged. true≢false (sym (rw (P .no-flag f k g) at flagged))) in
+        omega (arith, f, enough, few))
 
 -- a good station that decides otherwise would make everyone bad that shows v
 pub enough-show : Enough-show
-enough-show n T bad D f agree v enough i gi = go (eqb (D i) v) refl
-  where
-    liar : D i ≢ v → (k : ℕ) → k < n → (b : Bool) → bad k ≡ b → eqb (D k) v ≡ true → b ≡ true
-    liar differ k h true e shown = refl
-    liar differ k h false e shown = absurd (differ (agree i k gi (h, e) ∙ eqb-true (D k) v shown))
-
-    go : (same : Bool) → eqb (D i) v ≡ same → D i ≡ v
-    go true e = eqb-true (D i) v e
-    go false e = absurd (omega (arith, f, enough, mono n (λ k. eqb (D k) v) bad (λ k h. liar (eqb-false (D i) v e) k h (bad k) refl)))
+enough-show n T bad D f agree v enough i gi =
+    same-unless (D i) v
+    (λ differ.
+        let few = only-bad n (λ k. eqb (D k) v) bad (λ k g shown. differ (agree i k gi g ∙ eqb-true (D k) v shown)) in
+        omega (arith, f, enough, few))

@@ -5,6 +5,7 @@ use mathlib.Core.Bool.{Bool, true, false}
 use mathlib.Core.List.{List, [], _∷_}
 use mathlib.Core.Logic.{_⊎_, inl, inr}
 use native.Mathlib.Omega.{arith}
+use native.Mathlib.Nat.{le-of-eq}
 use native.Mathlib.Numerals.{add-one}
 use lib.Dec.{ltb}
 use lib.ListN.{length, length-append}
@@ -17,7 +18,7 @@ use Rattle.checker.specs.declared.Checked.{Checked}
 use Rattle.checker.specs.declared.Checked.the-variants.{Broke, Refused}
 use Rattle.text.specs.Decimal.{space, digit, decimal, numeral}
 use Rattle.text.specs.Laid.{Puts}
-use Rattle.text.proofs.DecimalLaws.{decimal-numeral}
+use Rattle.text.proofs.DecimalLaws.{one-digit, two-digits, decimal-numeral}
 use Rattle.text.proofs.LaidLaws.{puts-then}
 use Rattle.listing_lines.proofs.LineLaws.{refusal-short}
 use Rattle.finding.specs.Finding.{number-if, numbers, broke-line, finding}
@@ -45,18 +46,6 @@ numbers-turn marks i p q = rw (add-one i) (puts-then p q)
 
 -- ---- how long it is: a space and one digit for the numbers to 9, two for the others
 
-decimal-one : (x : ℕ) → x < 10 → length (decimal x) ≤ 1
-unfolding decimal
-decimal-one x h = rw (lt-ltb x 10 h) (omega arith)
-
-decimal-two : (x : ℕ) → x < 100 → length (decimal x) ≤ 2
-unfolding decimal
-decimal-two x h = rw (lt-ltb x 100 h) (go (ltb x 10))
-  where
-    go : (b : Bool) → length (if b then digit x ∷ [] else digit (x / 10) ∷ digit (x % 10) ∷ []) ≤ 2
-    go true = omega arith
-    go false = omega arith
-
 number-short : (marks i d : ℕ) → i < 32 → length (decimal (i + 1)) ≤ d → length (number-if marks i) ≤ 1 + d
 unfolding number-if
 number-short marks i d h l = go (marked marks i)
@@ -73,8 +62,8 @@ numbers-short marks (suc m) h =
   where
     go : (9 ≤ m) ⊎ (m < 9) → length (numbers marks m) ≤ 3 * m - min m 9
         → length (numbers marks m) + length (number-if marks m) ≤ 3 * suc m - min (suc m) 9
-    go (inl l) ih = omega (arith, number-short marks m 2 h (decimal-two (m + 1) (omega arith)))
-    go (inr l) ih = omega (arith, number-short marks m 1 h (decimal-one (m + 1) (omega arith)))
+    go (inl l) ih = omega (arith, number-short marks m 2 h (two-digits (m + 1) (omega arith)))
+    go (inr l) ih = omega (arith, number-short marks m 1 h (le-of-eq (one-digit (m + 1) (omega arith))))
 
 pub finding-short : (answer : Checked) → length (finding answer) ≤ 93
 unfolding broke-line

@@ -8,6 +8,7 @@ use mathlib.Core.List.{List}
 use native.Mathlib.Omega.{arith}
 use lib.Dec.{leb, eqb}
 use borrow.Author.Tests.{leb-false, le-leb, lt-leb, eqb-true, eq-eqb, ne-eqb, not-false}
+use Rattle.line.proofs.CountLaws.{both-true}
 use Rattle.line.specs.Line.{rounds}
 use Rattle.line.specs.Width.{bits}
 use Rattle.refusal.specs.Cause.{_or-else_}
@@ -105,10 +106,6 @@ unfolding numbers-verdict out-of-place record-form misplaced unmarked-sender
 judged-by-numbers s i r = rw (round-is s i r, from-is s i r, to-is s i r, bit-is s i r, rest-is s i r)
 
 -- ---- two records
-
-pub both-true : (a b : Bool) → a && b ≡ true → (a ≡ true) × (b ≡ true)
-both-true true b e = (refl, e)
-both-true false b e = (e, cc)
 
 module _ (s : List ℕ) (i j : ℕ) where
   -- the same round, from, to and bit are the same place, whatever the ballots

@@ -7,14 +7,7 @@ use native.Mathlib.Omega.{arith}
 use lib.Dec.{ltb}
 use borrow.Author.Tests.{lt-ltb, le-ltb}
 use Rattle.line.specs.Count.{if_then_else_}
-use Rattle.line.proofs.CountLaws.{le-or-lt}
-
-pub same-or-not : (a b : ℕ) → (a ≡ b) ⊎ (a ≡ b → ⊥)
-same-or-not a b =
-    ⊎-elim
-    (λ (p : a ≤ b). ⊎-elim (λ (q : a ≡ b). inl q) (λ (q : a < b). inr (λ e. omega arith)) (eq-or-lt-of-le p))
-    (λ (p : b < a). inr (λ e. omega arith))
-    (le-or-lt a b)
+use Rattle.line.proofs.CountLaws.{le-or-lt, same-or-not}
 
 -- whether v is among the first n values
 find : (f : ℕ → ℕ) (v n : ℕ) → ((a : ℕ) × ((a < n) × (f a ≡ v))) ⊎ ((a : ℕ) → a < n → f a ≡ v → ⊥)

@@ -31,7 +31,7 @@ use Rattle.judgement.specs.Judgement.{bit-to-8, chain-verdict, bit-verdict}
 use Rattle.reader.specs.Reading.{table-of}
 use Rattle.reader.specs.Loops.{SoundHeader}
 use Rattle.text.specs.Decimal.{decimal}
-use Rattle.text.proofs.DecimalLaws.{decimal-one, decimal-two, decimal-short}
+use Rattle.text.proofs.DecimalLaws.{one-digit, two-digits, decimal-short}
 use Rattle.listing_lines.proofs.LineLaws.{bad-shown, good-shown, refusal-short}
 use Rattle.listing_lines.specs.Lines.{first-line, station-line, station-lines, lines-by, run}
 use Rattle.listing_lines.specs.Text.{line-text, text}
@@ -40,16 +40,6 @@ use Rattle.listing.specs.Promise.{lent-verdict, listing}
 use Rattle.listing.specs.Theorems.{longest-listing}
 
 -- ---- numbers
-
-one-digit : (x : ℕ) → x < 10 → length (decimal x) ≡ 1
-one-digit x h = rw (← decimal-one x h)
-
-two-digits : (x : ℕ) → x < 100 → length (decimal x) ≤ 2
-two-digits x h = go (ltb x 10) refl
-  where
-    go : (b : Bool) → ltb x 10 ≡ b → length (decimal x) ≤ 2
-    go true e = omega (arith, one-digit x (ltb-true x 10 e))
-    go false e = rw (← decimal-two x (ltb-false x 10 e) h) (omega arith)
 
 -- a station's number, counted from 0: one digit up to station 9
 station-digits : (i : ℕ) → i < 99 → length (decimal (i + 1)) + (i - 9) ≤ 1 + (suc i - 9)

@@ -12,14 +12,14 @@ use borrow.Author.Tests.{eqb-false, not-true}
 use Rattle.line.specs.Count.{count}
 use Rattle.line.specs.Marks.{marked}
 use Rattle.line.specs.Ballot.{silence}
-use Rattle.line.proofs.CountLaws.{count-same, count-none}
+use Rattle.line.proofs.CountLaws.{count-same, count-none, both-true}
 use Rattle.refusal.specs.declared.cause.Cause.the-variants.{RecordForm, UnmarkedSender, Duplicate}
 use Rattle.refusal.specs.declared.cause.Verdict.the-variants.{Accepted}
 use Rattle.refusal.proofs.VerdictLaws.{refused-false}
 use Rattle.layout.specs.Layout.{header, tables-wanted, from, to, ballot}
 use Rattle.layout.specs.Chain.{Record, reached}
 use Rattle.judgement.specs.Judgement.{misplaced, record-form, unmarked-sender, same-place, taken-before, duplicate, record-verdict, records-verdict}
-use Rattle.judgement.proofs.RangeLaws.{both-true, range-passes}
+use Rattle.judgement.proofs.RangeLaws.{range-passes}
 use Rattle.reader.specs.Reading.{place-of, filled}
 use Rattle.reader.proofs.PlaceLaws.{InPlace, same-tells}
 use Rattle.reader.proofs.TableLaws.{filled-length, filled-at, filled-else}

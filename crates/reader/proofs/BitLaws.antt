@@ -12,8 +12,7 @@ use lib.Pow.{pow-lt, pow-add, shl-shr}
 use lib.Seq.{getD-set-same, getD-set-other}
 use borrow.Author.Tests.{eq-eqb}
 use Rattle.line.specs.Marks.{marked}
-use Rattle.line.proofs.CountLaws.{le-or-lt}
-use Rattle.layout.proofs.PigeonholeLaws.{same-or-not}
+use Rattle.line.proofs.CountLaws.{le-or-lt, same-or-not}
 use Rattle.reader.specs.Loops.{is-seen, with-place}
 
 -- ---- one number

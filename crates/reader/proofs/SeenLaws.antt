@@ -10,6 +10,7 @@ use lib.Dec.{ltb}
 use lib.Pow.{pow-pos}
 use borrow.Author.Tests.{lt-ltb}
 use lib.ListN.{length, length-set, length-replicate, getD-replicate}
+use Rattle.line.proofs.CountLaws.{same-or-not}
 use Rattle.line.specs.Width.{largest-tables}
 use Rattle.line.specs.Count.{count}
 use Rattle.line.proofs.MarksLaws.{marked-above}
@@ -19,7 +20,6 @@ use Rattle.refusal.specs.declared.cause.Verdict.the-variants.{Accepted}
 use Rattle.refusal.proofs.VerdictLaws.{refused-true, both-accepted}
 use Rattle.layout.specs.Layout.{header}
 use Rattle.layout.specs.Chain.{reached}
-use Rattle.layout.proofs.PigeonholeLaws.{same-or-not}
 use Rattle.judgement.specs.Judgement.{misplaced, record-form, unmarked-sender, same-place, taken-before, duplicate, record-verdict, records-verdict}
 use Rattle.reader.specs.Reading.{place-of}
 use Rattle.reader.specs.Loops.{SoundHeader, unseen, is-seen, with-place, seen, looked}

@@ -8,7 +8,7 @@ use native.Mathlib.Omega.{arith}
 use native.Mathlib.Nat.{add-zero, mul-assoc, mul-le-mul, pow-le-pow-right, mod-eq-of-lt}
 use lib.Dec.{eqb}
 use lib.ListN.{length, getD, set, length-set}
-use lib.Seq.{getD-set-same, getD-set-other, ext-getD}
+use lib.Seq.{getD-set-same, getD-set-other, ext-getD, set-getD}
 use lib.Pow.{pow-add}
 use borrow.Author.Tests.{eq-eqb, ne-eqb, eqb-true, eqb-false}
 use Rattle.line.specs.Line.{outcome-size}
@@ -28,21 +28,11 @@ unfolding put-four over
 put-over l a F = rw (add-zero a)
 
 -- what stands there already
-set-there : (l : List ℕ) (i : ℕ) → i < length l → set l i (getD l i 0) ≡ l
-set-there l i h = ext-getD 0 (set l i (getD l i 0)) l (length-set l i _) each
-  where
-    each : (k : ℕ) → k < length (set l i (getD l i 0)) → getD (set l i (getD l i 0)) k 0 ≡ getD l k 0
-    each k b = go (eqb k i) refl
-      where
-        go : (c : Bool) → eqb k i ≡ c → getD (set l i (getD l i 0)) k 0 ≡ getD l k 0
-        go true e = rw (eqb-true k i e, getD-set-same)
-        go false e = let ne : k ≢ i = eqb-false k i e in rw getD-set-other
-
 over-there : (l : List ℕ) (a m : ℕ) (F : ℕ → ℕ) → a + m ≤ length l → ((d : ℕ) → d < m → F d ≡ getD l (a + d) 0) → over l a m F ≡ l
 unfolding over
 over-there l a zero F h same = refl
 over-there l a (suc m) F h same =
-    rw (over-there l a m F (omega arith) (λ d u. same d (omega arith)), same m (omega arith)) (set-there l (a + m) (omega arith))
+    rw (over-there l a m F (omega arith) (λ d u. same d (omega arith)), same m (omega arith)) (set-getD l (a + m) 0)
 
 -- ---- a number with one bit more
 

@@ -26,6 +26,16 @@ pub decimal-three : (x : ℕ) → 100 ≤ x → digit (x / 100) ∷ digit (x / 1
 unfolding decimal
 decimal-three x h = rw (le-ltb x 10 (omega arith), le-ltb x 100 h)
 
+pub one-digit : (x : ℕ) → x < 10 → length (decimal x) ≡ 1
+one-digit x h = rw (← decimal-one x h)
+
+pub two-digits : (x : ℕ) → x < 100 → length (decimal x) ≤ 2
+two-digits x h = go (ltb x 10) refl
+  where
+    go : (b : Bool) → ltb x 10 ≡ b → length (decimal x) ≤ 2
+    go true e = omega (arith, one-digit x (ltb-true x 10 e))
+    go false e = rw (← decimal-two x (ltb-false x 10 e) h) (omega arith)
+
 -- at most three digits are written
 pub decimal-short : (x : ℕ) → length (decimal x) ≤ 3
 unfolding decimal
