@@ -165,21 +165,21 @@ pub enough-unflagged : Enough-unflagged
 enough-unflagged values n t T bad s v D F P f enough i j gi gj =
     same-unless (D i) (D j)
     (λ differ.
-        let few = only-bad n (λ k. not (eqb (F k) 1)) bad (λ k g quiet. true≢false (sym (rw (P .consistency-detection f i j gi gj differ k g) at quiet))) in
-        omega (arith, f, enough, few))
+    let few = only-bad n (λ k. not (eqb (F k) 1)) bad (λ k g quiet. true≢false (sym (rw (P .consistency-detection f i j gi gj differ k g) at quiet))) in
+    omega (arith, f, enough, few))
 
 -- with f at most t no good station flags, so every station that shows a flag would be bad
 pub enough-flags : Enough-flags
 enough-flags values n t T bad s v D F P enough =
     lt-of-not-le
     (λ f.
-        let few = only-bad n (λ k. eqb (F k) 1) bad (λ k g flagged. true≢false (sym (rw (P .no-flag f k g) at flagged))) in
-        omega (arith, f, enough, few))
+    let few = only-bad n (λ k. eqb (F k) 1) bad (λ k g flagged. true≢false (sym (rw (P .no-flag f k g) at flagged))) in
+    omega (arith, f, enough, few))
 
 -- a good station that decides otherwise would make everyone bad that shows v
 pub enough-show : Enough-show
 enough-show n T bad D f agree v enough i gi =
     same-unless (D i) v
     (λ differ.
-        let few = only-bad n (λ k. eqb (D k) v) bad (λ k g shown. differ (agree i k gi g ∙ eqb-true (D k) v shown)) in
-        omega (arith, f, enough, few))
+    let few = only-bad n (λ k. eqb (D k) v) bad (λ k g shown. differ (agree i k gi g ∙ eqb-true (D k) v shown)) in
+    omega (arith, f, enough, few))

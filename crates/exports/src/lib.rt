@@ -8,8 +8,8 @@ ghost use Rattle.checker.specs.Promise.{logged};
 ghost use Rattle.exports.specs.Numbers.{ReadNumber, ReadBitNumber, NeedsWord, WritesWord, GeneratesNumber, RehearsedNumber, ExchangedNumber, ChecksWord};
 use checker::Checked;
 use line::Line;
-use refusal::cause;
 use reader::Reading;
+use refusal::cause;
 use writer::Need;
 use writer::Writing;
 

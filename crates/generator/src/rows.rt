@@ -39,11 +39,8 @@ fn silent_row(table: &mut [u8], at: usize, n: usize)
     requires { ⌜ at + n ≤ length (now table) ⌝ }
     ensures { λ _. ⌜ now (table .exit) ≡ over (now (table .entry)) at n silent-byte ⌝ }
 {
-    let mut j: usize = 0;
-    while j < n {
-        table[at + j] = Line::SILENCE;
-        j += 1;
-    }
+    let end = at + n;
+    slices::fill(&mut table[at..end], Line::SILENCE);
 }
 
 // A sender's, which may be marked.

@@ -1,14 +1,15 @@
 -- Laws of `over`: what stands where after the writing. Assumes nothing.
-use Prim.Native.Nat.{ℕ, zero, suc, _+_, _≤_, _<_}
-use mathlib.Core.Logic.{⊎-elim, _≢_}
-use mathlib.Core.Path.{_≡_, refl, sym, _∙_}
-use mathlib.Core.List.{List}
+use Prim.Native.Nat.{ℕ, zero, suc, _+_, _-_, _≤_, _<_}
+use mathlib.Core.Logic.{_⊎_, inl, inr, ⊎-elim, _≢_}
+use mathlib.Core.Path.{_≡_, refl, sym, ap, _∙_}
+use mathlib.Core.List.{List, _++_}
 use native.Mathlib.Numerals.{add-one}
 use native.Mathlib.Nat.{add-zero, add-suc, eq-or-lt-of-le, le-of-suc-le-suc}
 use native.Mathlib.Omega.{arith}
-use lib.ListN.{length, getD, set, replicate, length-set, length-replicate, getD-replicate}
-use lib.Seq.{getD-set-same, getD-set-other, ext-getD}
+use lib.ListN.{length, getD, set, take, drop, replicate, length-set, length-append, length-drop, length-replicate, getD-replicate, List·getD-append}
+use lib.Seq.{getD-set-same, getD-set-other, getD-take, getD-drop, getD-append-add, length-take-le, ext-getD}
 use Rattle.line.specs.Writing.{over, Each}
+use Rattle.line.proofs.CountLaws.{le-or-lt}
 
 module _ (l : List ℕ) (a : ℕ) (F : ℕ → ℕ) where
   pub over-none : l ≡ over l a 0 F
@@ -77,6 +78,51 @@ over-all l v =
     (λ k h.
     let b : k < length l = rw over-length at h in
     front-at l (λ k. v) (length l) k b (omega arith) ∙ sym (getD-replicate (length l) k v 0 b))
+
+-- l with a part in place of its m bytes from `a` on
+abbrev pub spliced : List ℕ → List ℕ → ℕ → ℕ → List ℕ
+spliced l part a m = take a l ++ (part ++ drop m (drop a l))
+
+module _ (l part : List ℕ) (a m : ℕ) (room : a + m ≤ length l) (size : length part ≡ m) where
+  front : length (take a l) ≡ a
+  front = length-take-le a l (omega arith)
+
+  pub spliced-length : length (spliced l part a m) ≡ length l
+  spliced-length = simp (length-append, length-drop, front, size) (omega arith)
+
+  pub spliced-before : (k : ℕ) → k < a → getD (spliced l part a m) k 0 ≡ getD l k 0
+  spliced-before k h = List·getD-append (take a l) _ 0 k (rw front h) ∙ getD-take a l k 0 h
+
+  pub spliced-there : (k : ℕ) → k < m → getD (spliced l part a m) (a + k) 0 ≡ getD part k 0
+  spliced-there k h =
+      (rw front at (getD-append-add (take a l) (part ++ drop m (drop a l)) k 0)) ∙ List·getD-append part _ 0 k (rw size h)
+
+  spliced-after : (k : ℕ) → getD (spliced l part a m) (a + (m + k)) 0 ≡ getD l (a + (m + k)) 0
+  spliced-after k =
+      (rw front at (getD-append-add (take a l) (part ++ drop m (drop a l)) (m + k) 0))
+      ∙ (rw size at (getD-append-add part (drop m (drop a l)) k 0))
+      ∙ getD-drop m (drop a l) k 0
+      ∙ getD-drop a l (m + k) 0
+
+  -- are a writing from there on
+  pub over-part : (F : ℕ → ℕ) → ((k : ℕ) → k < m → getD part k 0 ≡ F k) → spliced l part a m ≡ over l a m F
+  over-part F same = ext-getD 0 _ _ (spliced-length ∙ sym (over-length l a F m)) (λ k _. at-place k (le-or-lt a k) (le-or-lt (a + m) k))
+    where
+      at-place : (k : ℕ) → (a ≤ k) ⊎ (k < a) → (a + m ≤ k) ⊎ (k < a + m) → getD (spliced l part a m) k 0 ≡ getD (over l a m F) k 0
+      at-place k (inr h) _ = spliced-before k h ∙ sym (over-before l a F m k h)
+      at-place k (inl h) (inr b) =
+          let e : a + (k - a) ≡ k = omega arith in
+          rw e at (spliced-there (k - a) (omega arith) ∙ same (k - a) (omega arith) ∙ sym (over-at l a F m (k - a) (omega arith) room))
+      at-place k (inl h) (inl b) =
+          let e : a + (m + (k - a - m)) ≡ k = omega arith in rw e at (spliced-after (k - a - m)) ∙ sym (over-after l a F m k b)
+
+-- a part filled with one byte, as the code lends it
+pub over-filled : (l part : List ℕ) (a k m b : ℕ) → k ≡ m → a + m ≤ length l → part ≡ replicate (length (take k (drop a l))) b
+    → spliced l part a k ≡ over l a m (λ j. b)
+over-filled l part a k m b e room q =
+    let long : length (take m (drop a l)) ≡ m = length-take-le m (drop a l) (rw (length-drop a l) (omega arith)) in
+    let same : part ≡ replicate m b = q ∙ rw (e, long) refl in
+    rw e (over-part l part a m room (ap length same ∙ length-replicate m b) (λ j. b) (λ j h. rw same (getD-replicate m j b 0 h)))
 
 -- ---- an array that a loop fills from the front
 

@@ -2,20 +2,42 @@
 use Prim.Native.Nat.{ℕ, zero, suc, _+_, _-_, _*_, _/_, _%_, _≤_, _<_}
 use mathlib.Core.Path.{_≡_, refl, sym, ap, _∙_}
 use mathlib.Core.Bool.{Bool, true, false, _&&_}
-use mathlib.Core.List.{List}
+use mathlib.Core.List.{List, _++_}
 use native.Mathlib.Omega.{arith}
 use mathlib.Core.Logic.{_⊎_, inl, inr}
 use native.Mathlib.Nat.{zero-mul, mul-zero, add-mul, div-lt-iff-lt-mul, div-add-mod', mod-lt, eq-or-lt-of-le}
 use lib.Arith.{digits-div, digits-lt}
-use lib.ListN.{length, getD}
+use lib.ListN.{length, getD, take, drop, length-append, length-drop, List·getD-append}
+use lib.Seq.{length-take-le, getD-take, getD-drop}
 use Rattle.line.specs.Count.{if_then_else_}
 use Rattle.line.specs.Line.{has-round}
 use Rattle.line.specs.Marks.{marked}
 use Rattle.line.specs.Writing.{over}
 use Rattle.line.proofs.LineLaws.{next-row, row-within, round-means}
-use Rattle.line.proofs.WritingLaws.{over-on, over-same, over-at, over-before, over-length}
+use Rattle.line.proofs.WritingLaws.{spliced, over-part, over-on, over-same, over-at, over-before, over-length}
 use Rattle.line.proofs.CountLaws.{if-true, if-false}
 use Rattle.post.specs.Posted.{ballot-at, posted, same, from-table, Alike}
+
+-- ---- a part of the table copied to the log, as the code lends both
+
+pub over-copied : (l table part : List ℕ) (a k n : ℕ) → k ≡ n → a + n ≤ length l → a + n ≤ length table
+    → (let row = take k (drop a table) in part ≡ take (length row) row ++ drop (length row) (take k (drop a l)))
+    → spliced l part a k ≡ over l a n (from-table table a)
+unfolding from-table
+over-copied l table part a k n e room there q =
+    let row = take n (drop a table) in
+    let long : length row ≡ n = length-take-le n (drop a table) (rw (length-drop a table) (omega arith)) in
+    let here : length (take n (drop a l)) ≡ n = length-take-le n (drop a l) (rw (length-drop a l) (omega arith)) in
+    let same : part ≡ take n row ++ drop n (take n (drop a l)) = q ∙ rw (e, long) refl in
+    let size : length part ≡ n = ap length same ∙ simp (length-append, length-drop, here, length-take-le n row (omega (arith, long))) (omega arith) in
+    rw e
+    (over-part l part a n room size _
+    (λ j h.
+    rw same
+    (List·getD-append (take n row) _ 0 j (rw (length-take-le n row (omega (arith, long))) h)
+    ∙ getD-take n row j 0 h
+    ∙ getD-take n (drop a table) j 0 h
+    ∙ getD-drop a table j 0)))
 
 -- ---- good stations that say the same
 

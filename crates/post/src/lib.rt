@@ -12,11 +12,8 @@ fn post_same(log: &mut [u8], at: usize, n: usize, b: u8)
     requires { ⌜ at + n ≤ length (now log) ⌝ }
     ensures { λ _. ⌜ now (log .exit) ≡ over (now (log .entry)) at n (same b) ⌝ }
 {
-    let mut j: usize = 0;
-    while j < n {
-        log[at + j] = b;
-        j += 1;
-    }
+    let end = at + n;
+    slices::fill(&mut log[at..end], b);
 }
 
 // A bad station's bytes are the table's, unread.
@@ -24,11 +21,8 @@ fn post_table(log: &mut [u8], table: &[u8], at: usize, n: usize)
     requires { ⌜ (at + n ≤ length (now log)) × (at + n ≤ length (now table)) ⌝ }
     ensures { λ _. ⌜ now (log .exit) ≡ over (now (log .entry)) at n (from-table (now (table .entry)) at) ⌝ }
 {
-    let mut j: usize = 0;
-    while j < n {
-        log[at + j] = table[at + j];
-        j += 1;
-    }
+    let end = at + n;
+    bytes::copy(&table[at..end], &mut log[at..end]);
 }
 
 // Where the good stations end that say what station i says, one after the other from i on.

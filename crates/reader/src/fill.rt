@@ -1,20 +1,12 @@
 // The lent table, written once every record is judged.
 ghost use mathlib.Core.Path.{_≡_};
-ghost use lib.ListN.{length, replicate};
+ghost use lib.ListN.{length};
 ghost use Rattle.reader.specs.Loops.{Fillable, Inside, put-at, laid};
 use crate::walk::RECORDS;
 use line::Line;
 
-// 255 everywhere.
-fn silence(table: &mut [u8])
-    ensures { λ _. ⌜ now (table .exit) ≡ replicate (length (now (table .entry))) 255 ⌝ }
-{
-    let mut p: usize = 0;
-    while p < table.len() {
-        table[p] = Line::SILENCE;
-        p += 1;
-    }
-}
+// What stands at a place of which no record speaks.
+const UNSPOKEN: u8 = Line::SILENCE;
 
 fn wide(place: u32) -> usize
     ensures { λ r. ⌜ r ≡ place ⌝ }
@@ -27,7 +19,7 @@ pub(crate) fn fill(places: &[u32; RECORDS], ballots: &[u8; RECORDS], m: usize, t
     requires { ⌜ Fillable (now places) (now ballots) m × Inside (now places) m (length (now table)) ⌝ }
     ensures { λ _. ⌜ now (table .exit) ≡ laid (now (places .entry)) (now (ballots .entry)) 0 (length (now (table .entry))) m ⌝ }
 {
-    silence(table);
+    slices::fill(table, UNSPOKEN);
     let mut a: usize = 0;
     while a < m {
         let p = wide(places[a]);
@@ -60,7 +52,7 @@ pub(crate) fn fill_part(
     requires { ⌜ Fillable (now places) (now ballots) m ⌝ }
     ensures { λ _. ⌜ now (table .exit) ≡ laid (now (places .entry)) (now (ballots .entry)) start (length (now (table .entry))) m ⌝ }
 {
-    silence(table);
+    slices::fill(table, UNSPOKEN);
     let mut a: usize = 0;
     while a < m {
         put(table, start, wide(places[a]), ballots[a]);

@@ -17,6 +17,7 @@ use Rattle.line.specs.Marks.{marked}
 use Rattle.line.specs.Width.{bits, bit-of, tables-length, largest-tables, part-of}
 use Rattle.line.proofs.CountLaws.{le-or-lt}
 use Rattle.line.proofs.LineLaws.{row-within}
+use Rattle.line.proofs.WritingLaws.{spliced, spliced-length, spliced-before, spliced-there}
 use Rattle.line.proofs.WidthLaws.{bits-some, bits-most, tables-bound, part-at, part-size}
 use Rattle.refusal.specs.declared.cause.Verdict.{Verdict}
 use Rattle.refusal.specs.declared.cause.Verdict.the-variants.{Accepted}
@@ -82,30 +83,6 @@ module _ (N : NumberRun) (b : ℕ) (narrow : b < 8) where
       rw (gathered-length (N .n) (N .marks) b (bit-outcomes N))
       (tabulate-same (outcomes-length (N .n)) _ _ (λ k h. byte-more (k / outcome-size) (k % outcome-size) (omega arith) (omega arith)))
 
--- ---- a part put in place of another
-
--- l with m in place of its part of bit b
-abbrev pub spliced : ℕ → List ℕ → List ℕ → ℕ → List ℕ
-spliced size l m b = take (b * size) l ++ (m ++ drop size (drop (b * size) l))
-
-module _ (size : ℕ) (l m : List ℕ) (b w : ℕ) (inside : b < w) (whole : length l ≡ w * size) (part : length m ≡ size) where
-  room : b * size + size ≤ length l
-  room = rw whole (omega (arith, mul-le-mul-right size inside, suc-mul b size))
-
-  front : length (take (b * size) l) ≡ b * size
-  front = length-take-le (b * size) l (omega (arith, room))
-
-  spliced-length : length (spliced size l m b) ≡ length l
-  spliced-length = simp (length-append, length-drop, front, part) (omega (arith, room))
-
-  spliced-before : (k : ℕ) → k < b * size → getD (spliced size l m b) k 0 ≡ getD l k 0
-  spliced-before k h = List·getD-append (take (b * size) l) _ 0 k (rw front h) ∙ getD-take (b * size) l k 0 h
-
-  spliced-there : (k : ℕ) → k < size → getD (spliced size l m b) (b * size + k) 0 ≡ getD m k 0
-  spliced-there k h =
-      (rw front at (getD-append-add (take (b * size) l) (m ++ drop size (drop (b * size) l)) k 0))
-      ∙ List·getD-append m _ 0 k (rw part h)
-
 -- ---- a bit more
 
 -- bit b with a log of its length, where the outcomes of the bits below are gathered
@@ -170,6 +147,9 @@ one-more-in-turn N sound whole b more bytes results bytes₁ results₁ answer P
 
 module _ (N : NumberRun) (logs₀ outcomes₀ : List ℕ) (ready : Playable N logs₀ outcomes₀) where
   module _ (b : ℕ) (more : b < bits (N .w)) (bytes results : List ℕ) (P : Played N b bytes results) where
+    its-room : b * table-length (N .n) (N .t) + table-length (N .n) (N .t) ≤ length bytes
+    its-room = rw (P .logs-whole) (row-within b (table-length (N .n) (N .t)) (bits (N .w)) more)
+
     its-part : length (part-of (table-length (N .n) (N .t)) bytes b) ≡ table-length (N .n) (N .t)
     its-part = part-size (table-length (N .n) (N .t)) bytes b (bits (N .w)) more (P .logs-whole)
 
@@ -188,21 +168,21 @@ module _ (N : NumberRun) (logs₀ outcomes₀ : List ℕ) (ready : Playable N lo
       its-size : length part₁ ≡ table-length (N .n) (N .t)
       its-size = ap length (its-log ∙ sym (one-log N b more)) ∙ part-size (table-length (N .n) (N .t)) (logs N) b (bits (N .w)) more (all-logs N)
 
-      log-there : (k : ℕ) → k < table-length (N .n) (N .t) → getD (spliced (table-length (N .n) (N .t)) bytes part₁ b) (b * table-length (N .n) (N .t) + k) 0 ≡ getD (logs N) (b * table-length (N .n) (N .t) + k) 0
+      log-there : (k : ℕ) → k < table-length (N .n) (N .t) → getD (spliced bytes part₁ (b * table-length (N .n) (N .t)) (table-length (N .n) (N .t))) (b * table-length (N .n) (N .t) + k) 0 ≡ getD (logs N) (b * table-length (N .n) (N .t) + k) 0
       log-there k h =
-          spliced-there (table-length (N .n) (N .t)) bytes part₁ b (bits (N .w)) more (P .logs-whole) its-size k h
+          spliced-there bytes part₁ (b * table-length (N .n) (N .t)) (table-length (N .n) (N .t)) its-room its-size k h
           ∙ rw (its-log, ← one-log N b more) (part-at (table-length (N .n) (N .t)) (logs N) b k h)
 
-      has : (k : ℕ) → k < suc b * table-length (N .n) (N .t) → (b * table-length (N .n) (N .t) ≤ k) ⊎ (k < b * table-length (N .n) (N .t)) → getD (spliced (table-length (N .n) (N .t)) bytes part₁ b) k 0 ≡ getD (logs N) k 0
-      has k h (inr l) = spliced-before (table-length (N .n) (N .t)) bytes part₁ b (bits (N .w)) more (P .logs-whole) its-size k l ∙ P .logs-have k l
+      has : (k : ℕ) → k < suc b * table-length (N .n) (N .t) → (b * table-length (N .n) (N .t) ≤ k) ⊎ (k < b * table-length (N .n) (N .t)) → getD (spliced bytes part₁ (b * table-length (N .n) (N .t)) (table-length (N .n) (N .t))) k 0 ≡ getD (logs N) k 0
+      has k h (inr l) = spliced-before bytes part₁ (b * table-length (N .n) (N .t)) (table-length (N .n) (N .t)) its-room its-size k l ∙ P .logs-have k l
       has k h (inl l) =
           let d : b * table-length (N .n) (N .t) + (k - b * table-length (N .n) (N .t)) ≡ k = omega arith in
           rw d at (log-there (k - b * table-length (N .n) (N .t)) (omega (arith, suc-mul b (table-length (N .n) (N .t)))))
 
-      pub bit-played : Played N (suc b) (spliced (table-length (N .n) (N .t)) bytes part₁ b) results₁
+      pub bit-played : Played N (suc b) (spliced bytes part₁ (b * table-length (N .n) (N .t)) (table-length (N .n) (N .t))) results₁
       bit-played = record {
         logs-have = λ k h. has k h (le-or-lt (b * table-length (N .n) (N .t)) k);
-        logs-whole = spliced-length (table-length (N .n) (N .t)) bytes part₁ b (bits (N .w)) more (P .logs-whole) its-size ∙ P .logs-whole;
+        logs-whole = spliced-length bytes part₁ (b * table-length (N .n) (N .t)) (table-length (N .n) (N .t)) its-room its-size ∙ P .logs-whole;
         gathered-are = λ _. its-gathered;
         outcomes-whole = ap length its-gathered ∙ gathered-length (N .n) (N .marks) (suc b) (bit-outcomes N);
       }

@@ -1,77 +1,56 @@
 -- `post_table` meets its contract.
 use borrow.Author.Needs.{needs}
 use native.Mathlib.Omega.{arith}
-use Prim.Native.Nat.{_≤_, _-_}
-use mathlib.Core.Path.{_≡_, refl, ap, _∙_}
-use lib.ListN.{length}
-use Rattle.line.specs.Writing.{over}
-use Rattle.post.specs.Posted.{same, from-table}
-use Rattle.line.proofs.WritingLaws.{over-none, over-turn, over-length}
+use Prim.Native.Nat.{_+_, _-_}
+use mathlib.Core.Path.{_≡_}
+use Rattle.post.proofs.PostLaws.{over-copied}
 use Rattle.post.proofs.post_table.Statement.{statement}
 use Rattle.post.proofs.post_table.Tie as tie
 
-abbrev Inv-loop : tie.InvT-loop
-Inv-loop log₀ table at n j₀ log j = (j ≤ n) × (log ≡ over log₀ at j (from-table table at))
+add-end : tie.Need-add-end
+add-end c = search needs
 
-abbrev μ-loop : tie.MeasureT-loop
-μ-loop log₀ table at n j₀ log j = n - j
+sub-copy : tie.Need-sub-copy
+sub-copy c = search needs
 
-loop-holds : tie.Need-loop-holds Inv-loop μ-loop
-loop-holds c = (omega arith, over-none _ _ _)
+part-copy-start : tie.Need-part-copy-start
+part-copy-start c = search needs
 
-add-log : tie.Need-add-log Inv-loop μ-loop
-add-log c = search needs
+part-copy-end : tie.Need-part-copy-end
+part-copy-end c = search needs
 
-shared-slice-read-log : tie.Need-shared-slice-read-log Inv-loop μ-loop
-shared-slice-read-log c = search needs
+sub-copy-2 : tie.Need-sub-copy-2
+sub-copy-2 c = search needs
 
-add-log-2 : tie.Need-add-log-2 Inv-loop μ-loop
-add-log-2 c = search needs
+part-copy-start-2 : tie.Need-part-copy-start-2
+part-copy-start-2 c = search needs
 
-slice-write-log : tie.Need-slice-write-log Inv-loop μ-loop
-slice-write-log c =
-    let a = c .before .before in
-    let g = a .before .args in
-    omega (arith, ap length (a .loop .inv .1) ∙ over-length (g .log .now) (g .at) (from-table (g .table .now) (g .at)) (a .loop .j))
+part-copy-end-2 : tie.Need-part-copy-end-2
+part-copy-end-2 c = search needs
 
-add-j : tie.Need-add-j Inv-loop μ-loop
-add-j c = search needs
+copy-requires : tie.Need-copy-requires
+copy-requires c κs = search needs
 
-loop-less : tie.Need-loop-less Inv-loop μ-loop
-loop-less c = search needs
+same-length : tie.Need-same-length
+same-length c = search needs
 
-loop-again : tie.Need-loop-again Inv-loop μ-loop
-unfolding same from-table
-loop-again c =
-    let a = c .before .before in
-    let g = a .before .args in
-    (omega arith, over-turn (g .log .now) (g .at) (from-table (g .table .now) (g .at)) (a .loop .j) (a .loop .log) _ (a .loop .inv .1) refl)
-
-same-length : tie.Need-same-length Inv-loop μ-loop
-same-length c =
-    let a = c .before in
-    let g = a .before .args in
-    ap length (a .loop .inv .1) ∙ over-length (g .log .now) (g .at) (from-table (g .table .now) (g .at)) (a .loop .j)
-
-returns : tie.Need-returns Inv-loop μ-loop
+returns : tie.Need-returns
 returns c =
-    let a = c .before in
-    let e : a .loop .j ≡ a .before .args .n = omega arith in
-    rw (← e) (a .loop .inv .1)
+    let s = c .before .before .before .before .before .before .before in
+    over-copied _ (s .args .table .now) _ (s .args .at) (s .args .at + s .args .n - s .args .at) (s .args .n) (omega arith) (s .pre .0) (s .pre .1)
+    (c .before .before .copy .ensures .1)
 
 pub post-table-spec : {M : Type 1} → statement M
 post-table-spec =
     tie.close
     (tie.spec
-    Inv-loop
-    μ-loop
-    loop-holds
-    add-log
-    shared-slice-read-log
-    add-log-2
-    slice-write-log
-    add-j
-    loop-less
-    loop-again
+    add-end
+    sub-copy
+    part-copy-start
+    part-copy-end
+    sub-copy-2
+    part-copy-start-2
+    part-copy-end-2
+    copy-requires
     same-length
     returns)

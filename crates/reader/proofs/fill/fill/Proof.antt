@@ -15,12 +15,12 @@ Inv-loop places ballots m table₀ a₀ table a = (a ≤ m) × (table ≡ laid p
 abbrev μ-loop : tie.MeasureT-loop
 μ-loop places ballots m table₀ a₀ table a = m - a
 
-silence-requires : tie.Need-silence-requires Inv-loop μ-loop
-silence-requires c κs = search needs
+fill-requires : tie.Need-fill-requires Inv-loop μ-loop
+fill-requires c κs = search needs
 
 loop-holds : tie.Need-loop-holds Inv-loop μ-loop
 unfolding laid
-loop-holds c = (omega arith, silent-still _ (length (c .before .before .before .before .before .args .table .now)) (c .before .before .silence .ensures))
+loop-holds c = (omega arith, silent-still _ (length (c .before .before .before .before .before .args .table .now)) (c .before .before .fill .ensures))
 
 mul-wide : tie.Need-mul-wide Inv-loop μ-loop
 mul-wide c = omega (arith, c .before .before .before .before .before .before .before .pre .0 .position)
@@ -37,7 +37,7 @@ element-copy-out-table c = let p = c .before .before .before .before .before .be
 slice-write-table : tie.Need-slice-write-table Inv-loop μ-loop
 slice-write-table c =
     let p = c .before .before .before .before .before .before .before .before .before .before .pre .1 in
-    rw (c .before .wide .ensures, c .before .before .before .before .loop .inv .1, laid-length, silent-length _ (length (c .before .before .before .before .before .before .before .before .before .before .args .table .now)) (c .before .before .before .before .before .before .before .silence .ensures)) (p _ (omega arith))
+    rw (c .before .wide .ensures, c .before .before .before .before .loop .inv .1, laid-length, silent-length _ (length (c .before .before .before .before .before .before .before .before .before .before .args .table .now)) (c .before .before .before .before .before .before .before .fill .ensures)) (p _ (omega arith))
 
 add-a : tie.Need-add-a Inv-loop μ-loop
 add-a c = omega arith
@@ -51,12 +51,12 @@ loop-again c =
     (omega arith, rw (c .before .wide .ensures) (rw put-whole at turn))
 
 same-length : tie.Need-same-length Inv-loop μ-loop
-same-length c = rw (c .before .loop .inv .1) (laid-length _ _ _ _ _ ∙ silent-length _ (length (c .before .before .before .before .before .before .before .args .table .now)) (c .before .before .before .before .silence .ensures))
+same-length c = rw (c .before .loop .inv .1) (laid-length _ _ _ _ _ ∙ silent-length _ (length (c .before .before .before .before .before .before .before .args .table .now)) (c .before .before .before .before .fill .ensures))
 
 returns : tie.Need-returns Inv-loop μ-loop
 returns c =
     let e : c .before .loop .a ≡ c .before .before .before .before .before .before .before .args .m = omega arith in
-    rw (e, silent-length _ (length (c .before .before .before .before .before .before .before .args .table .now)) (c .before .before .before .before .silence .ensures)) at (c .before .loop .inv .1)
+    rw (e, silent-length _ (length (c .before .before .before .before .before .before .before .args .table .now)) (c .before .before .before .before .fill .ensures)) at (c .before .loop .inv .1)
 
 pub fill-spec : {M : Type 1} → statement M
 fill-spec =
@@ -64,7 +64,7 @@ fill-spec =
     (tie.spec
     Inv-loop
     μ-loop
-    silence-requires
+    fill-requires
     loop-holds
     mul-wide
     element-copy-out-wide

@@ -15,12 +15,12 @@ Inv-loop places ballots m start table₀ a₀ table a = (a ≤ m) × (table ≡ 
 abbrev μ-loop : tie.MeasureT-loop
 μ-loop places ballots m start table₀ a₀ table a = m - a
 
-silence-requires : tie.Need-silence-requires Inv-loop μ-loop
-silence-requires c κs = search needs
+fill-requires : tie.Need-fill-requires Inv-loop μ-loop
+fill-requires c κs = search needs
 
 loop-holds : tie.Need-loop-holds Inv-loop μ-loop
 unfolding laid
-loop-holds c = (omega arith, silent-still _ (length (c .before .before .before .before .before .args .table .now)) (c .before .before .silence .ensures))
+loop-holds c = (omega arith, silent-still _ (length (c .before .before .before .before .before .args .table .now)) (c .before .before .fill .ensures))
 
 mul-wide : tie.Need-mul-wide Inv-loop μ-loop
 mul-wide c = omega (arith, c .before .before .before .before .before .before .before .before .pre .position)
@@ -49,12 +49,12 @@ loop-again c =
     (omega arith, rw (c .before .before .put .ensures, c .before .before .before .before .wide .ensures) turn)
 
 same-length : tie.Need-same-length Inv-loop μ-loop
-same-length c = rw (c .before .loop .inv .1) (laid-length _ _ _ _ _ ∙ silent-length _ (length (c .before .before .before .before .before .before .before .args .table .now)) (c .before .before .before .before .silence .ensures))
+same-length c = rw (c .before .loop .inv .1) (laid-length _ _ _ _ _ ∙ silent-length _ (length (c .before .before .before .before .before .before .before .args .table .now)) (c .before .before .before .before .fill .ensures))
 
 returns : tie.Need-returns Inv-loop μ-loop
 returns c =
     let e : c .before .loop .a ≡ c .before .before .before .before .before .before .before .args .m = omega arith in
-    rw (e, silent-length _ (length (c .before .before .before .before .before .before .before .args .table .now)) (c .before .before .before .before .silence .ensures)) at (c .before .loop .inv .1)
+    rw (e, silent-length _ (length (c .before .before .before .before .before .before .before .args .table .now)) (c .before .before .before .before .fill .ensures)) at (c .before .loop .inv .1)
 
 pub fill-part-spec : {M : Type 1} → statement M
 fill-part-spec =
@@ -62,7 +62,7 @@ fill-part-spec =
     (tie.spec
     Inv-loop
     μ-loop
-    silence-requires
+    fill-requires
     loop-holds
     mul-wide
     element-copy-out-wide
