@@ -25,7 +25,6 @@ use Rattle.selection.specs.Places.{bit-at, round-at, from-at, to-at, to-write, 
 use Rattle.record.specs.Bytes.{low, high, first-index, header-bytes, eight}
 use Rattle.writer.specs.Sheet.{next-index, record-of, record-bytes, records-bytes, sheet}
 use Rattle.normal_form.specs.Normal.{rewritten}
-use Rattle.normal_form.specs.Output.{output}
 use Rattle.xorshift.specs.State as state
 use Rattle.generator.specs.Tables as noise
 use Rattle.generator.specs.Judgement.{seed-some, generate-verdict}
@@ -42,7 +41,7 @@ _then_ : {A B : Type 0} → A → B → A × B
 a then b = (a, b)
 
 all-hold : All cases × All further × All numbers × All generated-runs
-unfolding count place marked bit-round blank-round read-sender read-first read-second read-king sender-value first-value second-value king-value refused-if outside station-count exceeded thresholds station-number mark-beyond marks-within exact-length line-verdict width number-within number-verdict bits bit-of part-of number-of smaller smallest either any larger largest number.bit-run number.numbers number.grades number.flags number.counts number.stations number.gathered number.bit-outcomes number.number-outcomes tally firsts seconds z-from z-of y-from y-of grade-of flag-of sends first-row z second-row y grade phases first-round obey x-after y-after grade-after value-of final-grade final-flag z-after part speaks spoken said sent reading garbled-ballots some-garbled received garbled-in garbled-rounds at tabulate setting pick outcome-byte outcome-bytes outcomes byte two four header first records start round from to ballot next bit rest is-record after reached ill-formed sheet-form verdict-to-6 verdict-to-8 misplaced record-form unmarked-sender same-place taken-before duplicate record-verdict records-verdict sheet-verdict place-of filled kind walk fate station-line station-lines verdict lines decimal bit-at round-at from-at to-at to-write how-many ranked place-written low high first-index header-bytes eight next-index record-of record-bytes records-bytes sheet rewritten output header-length state.shifted-left state.shifted-right state.xor-left state.xor-right state.next state.state-after noise.ballot noise.has-step noise.steps-before noise.byte-at noise.noise noise.generated seed-some generate-verdict seed-run seed-lines
+unfolding count place marked bit-round blank-round read-sender read-first read-second read-king sender-value first-value second-value king-value refused-if outside station-count exceeded thresholds station-number mark-beyond marks-within exact-length line-verdict width number-within number-verdict bits bit-of part-of number-of smaller smallest either any larger largest number.bit-run number.numbers number.grades number.flags number.counts number.stations number.gathered number.bit-outcomes number.number-outcomes tally firsts seconds z-from z-of y-from y-of grade-of flag-of sends first-row z second-row y grade phases first-round obey x-after y-after grade-after value-of final-grade final-flag z-after part speaks spoken said sent reading garbled-ballots some-garbled received garbled-in garbled-rounds at tabulate setting pick outcome-byte outcome-bytes outcomes byte two four header first records start round from to ballot next bit rest is-record after reached ill-formed sheet-form verdict-to-6 verdict-to-8 misplaced record-form unmarked-sender same-place taken-before duplicate record-verdict records-verdict sheet-verdict place-of filled kind walk fate station-line station-lines verdict lines decimal bit-at round-at from-at to-at to-write how-many ranked place-written low high first-index header-bytes eight next-index record-of record-bytes records-bytes sheet rewritten header-length state.shifted-left state.shifted-right state.xor-left state.xor-right state.next state.state-after noise.ballot noise.has-step noise.steps-before noise.byte-at noise.noise noise.generated seed-some generate-verdict seed-run seed-lines
 all-hold = (
   (fate _, refl)
       then (fate _, refl)

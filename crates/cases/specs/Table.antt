@@ -8,7 +8,8 @@ use Rattle.layout.specs.Layout.{header}
 use Rattle.layout.specs.Chain.{Fate}
 use Rattle.listing_lines.specs.Lines.{Field, agree, num, dash, verdict, lines}
 use Rattle.listing_lines.specs.Text.{text}
-use Rattle.normal_form.specs.Output.{output}
+use Rattle.listing_lines.specs.Output.{output-by}
+use Rattle.normal_form.specs.Normal.{rewritten}
 use Rattle.generator.specs.Tables.{generated}
 use Rattle.generator.specs.Judgement.{generate-verdict}
 use Rattle.seeded.specs.Listings.{seed-lines}
@@ -36,7 +37,7 @@ abbrev pub Comes : (s : List ℕ) → Wanted → Type 0
 Comes s (prints l) = (fate : Fate s) × (lines s fate ≡ l)
 Comes s (writes b) = (fate : Fate s) × (text (lines s fate) ≡ b)
 Comes s (is-long k) = (fate : Fate s) × (length (text (lines s fate)) ≡ k)
-Comes s (rewritten-as b) = (fate : Fate s) × (output s fate ≡ b)
+Comes s (rewritten-as b) = (fate : Fate s) × (output-by (verdict s fate) (rewritten s fate) ≡ b)
 Comes s accepted = (fate : Fate s) × (code (verdict s fate) ≡ 0)
 Comes s (refused-by k) = (fate : Fate s) × (code (verdict s fate) ≡ k)
 Comes s (draws seed b) = generated (header s) seed ≡ b

@@ -1,6 +1,5 @@
--- What is read of a written sheet, and the normal form of a sheet (document 02, Ticket 1): Reading has the first, Normal the second, Output what the program
--- rewrite writes. Theorems has every statement.
+-- What is read of a written sheet, and the normal form of a sheet (document 02, Ticket 1): Reading has the first, Normal the second. Theorems has every
+-- statement.
 pub mod Reading
 pub mod Normal
-pub mod Output
 pub mod Theorems

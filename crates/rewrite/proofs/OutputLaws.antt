@@ -1,14 +1,13 @@
 -- Laws of the output: a sheet at its start, and what the reader's answer makes of it. Assumes nothing.
 use Prim.Native.Nat.{ℕ, _≤_, min}
 use mathlib.Core.Path.{_≡_, sym, ap, _∙_}
-use mathlib.Core.List.{List, [], _∷_, _++_}
+use mathlib.Core.List.{List, _++_}
 use native.Mathlib.Nat.{min-eq-left}
 use native.Mathlib.Omega.{arith}
 use lib.ListN.{length, take, drop, length-append}
 use lib.Seq.{take-append-seam, length-take-le}
 use Rattle.line.specs.Width.{largest-tables}
 use Rattle.line.proofs.WidthLaws.{tables-bound}
-use Rattle.refusal.specs.Cause.{number}
 use Rattle.refusal.specs.declared.cause.Cause.{Cause}
 use Rattle.refusal.specs.declared.cause.Verdict.the-variants as verdict
 use Rattle.refusal.proofs.VerdictLaws.{both-accepted}
@@ -19,11 +18,7 @@ use Rattle.judgement.specs.Judgement.{verdict-to-8, chain-verdict, sheet-verdic
 use Rattle.reader.specs.declared.Reading.{Reading}
 use Rattle.reader.specs.declared.Reading.the-variants as reading
 use Rattle.reader.specs.Reading.{table-of, Reads}
-use Rattle.text.specs.Laid.{Puts}
-use Rattle.text.proofs.LaidLaws.{puts-whole}
 use Rattle.listing_lines.specs.Lines as lines
-use Rattle.listing_lines.specs.Text.{text}
-use Rattle.listing_lines.proofs.LineLaws.{refusal-short}
 use Rattle.listing_lines.proofs.VerdictLaws.{read-accepted, read-refused, verdict-same}
 use Rattle.writer.specs.declared.Need.{Need}
 use Rattle.writer.specs.declared.Need.the-variants as need
@@ -33,10 +28,10 @@ use Rattle.writer.specs.Judgement.{before-buffer, write-verdict}
 use Rattle.writer.specs.Writing.{Needs, Writes}
 use Rattle.writer.proofs.PromiseLaws.{told-accepted, told-bytes, told-most}
 use Rattle.normal_form.specs.Normal.{rewritten}
-use Rattle.normal_form.specs.Output.{output, Rewritten}
 use Rattle.normal_form.proofs.SheetLaws.{length-is}
 use Rattle.normal_form.proofs.FrontLaws.{form}
 use Rattle.normal_form.proofs.Theorems.{normal-form}
+use Rattle.rewrite.specs.Output.{Rewritten}
 
 -- ---- a sheet, written
 
@@ -95,13 +90,8 @@ module _ (s table₀ table₁ : List ℕ) {answer : Reading} (r : Reads s table�
     writable = rw table-is (normal-form s (length table₀) (r .fate) accepted .writable)
 
     pub accepted-output : (out : List ℕ) (n : ℕ) → (n ≤ length out) × (take n out ≡ sheet (take 12 s) table₁) → Rewritten s out n
-    unfolding output rewritten
+    unfolding rewritten
     accepted-output out n w = record { fate = r .fate; inside = w .0; whole = w .1 ∙ rw (← own, accepted, table-is) }
 
-  pub refused-output : (c : Cause) (k : ℕ) → answer ≡ reading.Refused c → k ≡ number c → (out₀ out₁ : List ℕ) (n : ℕ) → length out₀ ≡ 32780
-      → Puts out₀ out₁ 0 (text ((lines.refused ∷ lines.num k ∷ []) ∷ [])) n → Rewritten s out₁ n
-  unfolding output
-  refused-output c k e q out₀ out₁ n z p =
-      let short = refusal-short k in
-      let (inside, whole) = puts-whole p (omega (arith, short, z)) in
-      record { fate = r .fate; inside = inside; whole = whole ∙ rw (← own, read-refused s table₀ table₁ r c e, ← q) }
+  pub refused : (c : Cause) → answer ≡ reading.Refused c → lines.verdict s (r .fate) ≡ verdict.Refused c
+  refused c e = sym own ∙ read-refused s table₀ table₁ r c e

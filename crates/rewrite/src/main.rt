@@ -8,7 +8,7 @@ ghost use Rattle.refusal.specs.declared.cause.Verdict.the-variants.{Accepted};
 ghost use Rattle.layout.specs.Layout.{tables-wanted};
 ghost use Rattle.writer.specs.Sheet.{sheet};
 ghost use Rattle.writer.specs.Judgement.{before-buffer};
-ghost use Rattle.normal_form.specs.Output.{Rewritten};
+ghost use Rattle.rewrite.specs.Output.{Rewritten};
 use input::Input;
 use libc::STDERR_FILENO;
 use libc::STDIN_FILENO;

@@ -1,16 +1,13 @@
 -- What the program seeds prints (document 02, Ticket 7): "A program reads one sheet, keeps its header and prints the listings for seeds 1 to 100."
-use Prim.Native.Nat.{ℕ, zero, suc, _≤_}
-use mathlib.Core.Path.{_≡_}
+use Prim.Native.Nat.{ℕ, zero, suc}
 use mathlib.Core.List.{List, [], _++_}
-use lib.ListN.{length, take}
 use Rattle.refusal.specs.declared.cause.Verdict.the-variants.{Accepted}
 use Rattle.number.specs.Numbers.{number-outcomes}
 use Rattle.layout.specs.declared.Header.{Header}
 use Rattle.layout.specs.Layout.{header}
-use Rattle.layout.specs.Chain.{Fate}
-use Rattle.listing_lines.specs.Lines.{Field, lines-by, verdict}
+use Rattle.listing_lines.specs.Lines.{Field, lines-by}
 use Rattle.listing_lines.specs.Text.{text}
-use Rattle.normal_form.specs.Output.{output-by}
+use Rattle.listing_lines.specs.Output.{Output}
 use Rattle.seeded.specs.Promise.{seed-run}
 
 -- "to 100"
@@ -26,12 +23,6 @@ unfoldable pub listings : Header → ℕ → List ℕ
 listings h zero = []
 listings h (suc m) = listings h m ++ text (seed-lines h (suc m))
 
--- "A sheet that the reader refuses prints its one refusal line and no more."
-unfoldable pub output : (s : List ℕ) → Fate s → List ℕ
-output s fate = output-by (verdict s fate) (listings (header s) last-seed)
-
--- so many bytes at the buffer's start are the whole output
-pub record Printed (s out : List ℕ) (answer : ℕ) : Type 0 where
-  pub fate : Fate s
-  pub inside : answer ≤ length out
-  pub whole : take answer out ≡ output s fate
+-- "A sheet that the reader refuses prints its one refusal line and no more.": so many bytes at the buffer's start are all of it
+abbrev pub Printed : List ℕ → List ℕ → ℕ → Type 0
+Printed s out answer = Output s (λ fate. listings (header s) last-seed) out answer

@@ -1,13 +1,12 @@
 -- Laws of what is printed, by the reader's answer. Assumes nothing.
 use Prim.Native.Nat.{ℕ, _≤_, min}
-use mathlib.Core.Path.{_≡_, _∙_}
-use mathlib.Core.List.{List, [], _∷_}
+use mathlib.Core.Path.{_≡_, sym, _∙_}
+use mathlib.Core.List.{List}
 use native.Mathlib.Nat.{min-eq-left}
 use native.Mathlib.Omega.{arith}
 use lib.ListN.{length}
 use Rattle.line.specs.Line.{largest-table, outcomes-length}
 use Rattle.line.proofs.LineLaws.{table-bound}
-use Rattle.refusal.specs.Cause.{number}
 use Rattle.refusal.specs.declared.cause.Cause.{Cause}
 use Rattle.refusal.specs.declared.cause.Verdict.the-variants as verdict
 use Rattle.refusal.proofs.VerdictLaws.{both-accepted}
@@ -20,12 +19,10 @@ use Rattle.reader.specs.Reading.{ReadsBit}
 use Rattle.reader.specs.Loops.{SoundHeader}
 use Rattle.reader.proofs.PromiseLaws.{bit-sound, bit-length}
 use Rattle.text.specs.Laid.{Puts}
-use Rattle.text.proofs.LaidLaws.{puts-whole}
 use Rattle.listing_lines.specs.Lines as lines
-use Rattle.listing_lines.specs.Text.{text}
-use Rattle.listing_lines.proofs.LineLaws.{refusal-short}
+use Rattle.listing_lines.proofs.OutputLaws.{put-output}
 use Rattle.listing_lines.proofs.VerdictLaws.{bit-accepted, bit-refused, bit-verdict-same}
-use Rattle.seeded.specs.Listings.{last-seed, listings, output, Printed}
+use Rattle.seeded.specs.Listings.{last-seed, listings, Printed}
 use Rattle.seeded.proofs.ListingLaws.{listings-short}
 use Rattle.seeds.specs.Loops.{longest-output, Ready, Begun}
 
@@ -61,16 +58,10 @@ module _ (s table₀ table₁ : List ℕ) {answer : Reading} (r : ReadsBit s 0 t
         record { header-is = both .1; sound = sound; table-whole = b ∙ size; log-whole = a ∙ size }
 
     pub accepted-output : (out₀ out₁ : List ℕ) (n : ℕ) → length out₀ ≡ longest-output → Puts out₀ out₁ 0 (listings h last-seed) n → Printed s out₁ n
-    unfolding output
     accepted-output out₀ out₁ n z p =
-        let short : length (listings h last-seed) ≤ longest-output = rw (both .1) (listings-short (header s) sound last-seed) in
-        let (inside, whole) = puts-whole p (omega (arith, short, z)) in
-        record { fate = r .fate; inside = inside; whole = whole ∙ rw (← own, both .0, both .1) }
+        put-output s (λ fate. listings (header s) last-seed) (r .fate) out₀ out₁ n (sym own ∙ both .0)
+        (omega (arith, z, listings-short (header s) sound last-seed))
+        (rw (both .1) at p)
 
-  pub refused-output : (c : Cause) (k : ℕ) → answer ≡ reading.Refused c → k ≡ number c → (out₀ out₁ : List ℕ) (n : ℕ) → length out₀ ≡ longest-output
-      → Puts out₀ out₁ 0 (text ((lines.refused ∷ lines.num k ∷ []) ∷ [])) n → Printed s out₁ n
-  unfolding output
-  refused-output c k e q out₀ out₁ n z p =
-      let short = refusal-short k in
-      let (inside, whole) = puts-whole p (omega (arith, short, z)) in
-      record { fate = r .fate; inside = inside; whole = whole ∙ rw (← own, bit-refused s 0 table₀ table₁ r c e, ← q) }
+  pub refused : (c : Cause) → answer ≡ reading.Refused c → lines.verdict s (r .fate) ≡ verdict.Refused c
+  refused c e = sym own ∙ bit-refused s 0 table₀ table₁ r c e

@@ -1,8 +1,10 @@
 -- `rewrite` meets its contract, by what the reader answers.
 use borrow.Author.Needs.{needs}
 use mathlib.Core.Path.{sym}
+use native.Mathlib.Omega.{arith}
 use lib.Seq.{length-take-le}
-use Rattle.rewrite.proofs.OutputLaws.{headed, writable, accepted-output, refused-output}
+use Rattle.listing_lines.proofs.OutputLaws.{refused-output}
+use Rattle.rewrite.proofs.OutputLaws.{headed, writable, accepted-output, refused}
 use Rattle.rewrite.proofs.rewrite.Statement.{statement}
 use Rattle.rewrite.proofs.rewrite.Tie as tie
 
@@ -43,7 +45,11 @@ same-length-4 : tie.Need-same-length-4
 same-length-4 c = search needs
 
 returns-2 : tie.Need-returns-2
-returns-2 c = refused-output _ _ _ (c .before .before .before .before .before .before .before .before .before .before .read .ensures) (c .before .before .before .before .before .before .before .before .before .before .before .before .before .before .before .pre .0) _ _ (c .before .before .before .before .before .before .reading .given .1) (c .before .before .before .number .ensures) _ _ _ (c .before .before .before .before .before .before .before .before .before .before .before .before .before .before .before .pre .1) (c .before .before .of-refusal .ensures)
+returns-2 c =
+    let o = c .before .before in
+    let r = o .before .before .before .before .before .before .before .before in
+    let s = r .before .before .before .before .before in
+    refused-output _ _ _ _ _ _ _ _ (refused _ _ _ (r .read .ensures) (s .pre .0) _ (o .before .before .before .before .reading .given .1)) (o .before .number .ensures) (omega (arith, s .pre .1)) (o .of-refusal .ensures)
 
 pub rewrite-spec : {M : Type 1} → statement M
 rewrite-spec =

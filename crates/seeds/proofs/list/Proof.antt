@@ -1,6 +1,8 @@
 -- `list` meets its contract, by what the reader answers.
 use borrow.Author.Needs.{needs}
-use Rattle.seeds.proofs.OutputLaws.{begun, accepted-output, refused-output}
+use native.Mathlib.Omega.{arith}
+use Rattle.listing_lines.proofs.OutputLaws.{refused-output}
+use Rattle.seeds.proofs.OutputLaws.{begun, accepted-output, refused}
 use Rattle.seeds.proofs.list.Statement.{statement}
 use Rattle.seeds.proofs.list.Tie as tie
 
@@ -52,7 +54,7 @@ returns-2 c =
     let o = c .before .before in
     let r = o .before .before .before .before .before .before .before .before in
     let s = r .before .before .before .before .before .before in
-    refused-output _ _ _ (r .read-bit .ensures) (s .pre .0) _ _ (o .before .before .before .before .reading2 .given .1) (o .before .number .ensures) _ _ _ (s .pre .2) (o .of-refusal .ensures)
+    refused-output _ _ _ _ _ _ _ _ (refused _ _ _ (r .read-bit .ensures) (s .pre .0) _ (o .before .before .before .before .reading2 .given .1)) (o .before .number .ensures) (omega (arith, s .pre .2)) (o .of-refusal .ensures)
 
 pub list-spec : {M : Type 1} → statement M
 list-spec =

@@ -1,0 +1,2 @@
+-- What the program rewrite writes.
+pub mod Output
