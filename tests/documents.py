@@ -3,7 +3,8 @@
 
 Every path and every definition, statement, function or file that a document sets in backticks is there, and those that
 docs/AUDIT.md lays beside the papers stand in the file that it names; every wrong program that it names is there, and
-every one that is there is named. Prints what fails, then 'N passed, M failed'.
+every one that is there is named. README.md's picture of the crates is that of crates.txt, which lists what each names and
+no more. Prints what fails, then 'N passed, M failed'.
 """
 import pathlib
 import re
@@ -77,5 +78,53 @@ def edits():
         yield f"wrong program {name}: in docs/AUDIT.md and in {where}", (name, star) in told and (name, star) in there
 
 
+def listed():
+    """The areas of crates.txt in its order, each with its crates, and what each crate is listed with."""
+    areas, uses = {}, {}
+    for line in (TOP / "crates.txt").read_text(encoding="utf-8").split("\n\n", 1)[1].splitlines():
+        if line.startswith("# "):
+            areas[line[2:]] = []
+        elif line:
+            name, names = line.split(":")
+            areas[list(areas)[-1]].append(name)
+            uses[name] = names.split()
+    return areas, uses
+
+
+def direct(names, uses):
+    """Those of the names that none of the others uses, itself or by way of another."""
+    def below(name):
+        return {lower for use in uses.get(name, ()) for lower in {use} | below(use)}
+    return [name for name in names if not any(name in below(other) for other in names)]
+
+
+def named(crate, other):
+    """Whether a crate's code, definitions or proofs name another crate."""
+    files = [*(TOP / "crates" / crate / "src").rglob("*.rt"), *(TOP / "crates" / crate).glob("**/*.antt")]
+    text = "\n".join(re.sub(r"(^|\s)(--|//).*", "", file.read_text(encoding="utf-8")) for file in files)
+    return re.search(rf"Rattle.{other}[.·]|(?<!\w){other}::", text)
+
+
+def crates():
+    """README.md's areas and crates beside crates.txt, and this beside what each crate names."""
+    areas, uses = listed()
+    page = (TOP / "README.md").read_text(encoding="utf-8").split("\n## Crates\n", 1)[1]
+    rows = re.findall(r"^\| (?:\*\*(.*)\*\*|`(\w+)`) \| (.*?) ?\|", page, re.M)
+    told = [(area or crate, *re.findall(r"`(\w+)`", names)) for area, crate, names in rows]
+    wanted = [row for area in areas for row in [(area,), *((name, *direct(uses[name], uses)) for name in areas[area])]]
+    yield "README.md: the table of crates is that of crates.txt", told == wanted
+    home = {name: area for area in areas for name in areas[area]}
+    above = {area: {home[use] for name in areas[area] for use in uses[name] if use in home} - {area} for area in areas}
+    lines = re.findall(r"^    (\w[\w, ]*?)(?: ─+ (.*))?$", page, re.M)
+    drawn = {area: set(filter(None, behind.split("; "))) for area, behind in lines}
+    yield "README.md: the picture of the areas is that of crates.txt", drawn == {area: set(direct(sorted(above[area]), above)) for area in areas}
+    order = list(uses)
+    for name in order:
+        yield f"crates.txt: {name} uses crates above it", all(use not in order[order.index(name):] for use in uses[name])
+        for use in uses[name]:
+            # the enums of refusal are in what stored_run matches, though nothing of it names them
+            yield f"crates.txt: {name} names {use}", (name, use) == ("stored_run", "refusal") or named(name, use)
+
+
 if __name__ == "__main__":
-    sys.exit(not closing([*names(words()), *definitions(), *edits()]))
+    sys.exit(not closing([*names(words()), *definitions(), *edits(), *crates()]))

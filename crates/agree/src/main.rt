@@ -1,5 +1,9 @@
 // Reads a run sheet on standard input and writes its listing to standard output.
+ghost use mathlib.Core.Path.{_≡_};
+ghost use Prim.Native.Nat.{_+_};
+ghost use lib.ListN.{length};
 ghost use Rattle.io.specs.Counts.{Counts};
+ghost use Rattle.layout.specs.Layout.{longest-sheet};
 ghost use Rattle.listing.specs.Promise.{Listed};
 use input::Input;
 use libc::STDERR_FILENO;
@@ -27,13 +31,19 @@ fn list(sheet: &[u8]) {
     }
 }
 
-// The longest sheet has 32,780 bytes; the one more tells that an input is longer.
-fn main() {
-    let mut sheet = [0u8; 32781];
-    match input::whole(STDIN_FILENO, &mut sheet) {
+// Reads a sheet, into a buffer of one byte more than the longest has: that byte tells that an input is longer.
+fn read(sheet: &mut [u8])
+    requires { ⌜ length (now sheet) ≡ longest-sheet + 1 ⌝ }
+{
+    match input::whole(STDIN_FILENO, sheet) {
         Input::Bytes(n) => list(&sheet[..n]),
         Input::Failed => {
             io::write_all(STDERR_FILENO, b"agree: standard input could not be read\n");
         }
     }
+}
+
+fn main() {
+    let mut sheet = [0u8; layout::LONGEST_SHEET + 1];
+    read(&mut sheet);
 }

@@ -1,7 +1,8 @@
 // Reads a log and outcomes and tells which stations broke the rules. Arguments: n, t, T and the sender in decimal, then the names of the log's and of the
 // outcomes' file.
 ghost use mathlib.Core.Path.{_≡_};
-ghost use lib.ListN.{take};
+ghost use Prim.Native.Nat.{_+_};
+ghost use lib.ListN.{length, take};
 ghost use Rattle.io.specs.Counts.{Counts};
 ghost use Rattle.input.specs.Reading.{Within};
 ghost use Rattle.checker.specs.Promise.{logged, check-answer};
@@ -44,8 +45,9 @@ fn read_open(fd: i32, path: &[u8], buf: &mut [u8]) -> Input
     got
 }
 
-// Reads the file that argument i names, or says why it can't be.
-fn read(i: usize, buf: &mut [u8]) -> Input
+// Reads the file that argument i names, or says why it can't be. The buffer has one byte more than the most that is wanted, which tells that the file is longer.
+fn read(i: usize, most: usize, buf: &mut [u8]) -> Input
+    requires { ⌜ length (now buf) ≡ most + 1 ⌝ }
     ensures { λ r. ⌜ Within r (now (buf .exit)) ⌝ }
 {
     let mut path = io::buffer();
@@ -62,14 +64,14 @@ fn read(i: usize, buf: &mut [u8]) -> Input
     read_open(fd, &path[..len], buf)
 }
 
-// Reads both files. One byte more than the longest tells that a file is longer.
+// Reads both files.
 fn audit(line: Line, sender: u8) {
     let mut log = [0u8; Line::LARGEST_TABLE + 1];
     let mut outcomes = [0u8; Line::LARGEST_OUTCOMES + 1];
-    let Input::Bytes(log_len) = read(5, &mut log) else {
+    let Input::Bytes(log_len) = read(5, Line::LARGEST_TABLE, &mut log) else {
         return;
     };
-    let Input::Bytes(outcomes_len) = read(6, &mut outcomes) else {
+    let Input::Bytes(outcomes_len) = read(6, Line::LARGEST_OUTCOMES, &mut outcomes) else {
         return;
     };
     tell(line, sender, &log[..log_len], &outcomes[..outcomes_len]);

@@ -13,7 +13,7 @@ use Rattle.line.specs.Marks.{all-marks}
 use Rattle.line.specs.Writing.{Each}
 use Rattle.line.proofs.CountLaws.{all-same}
 use Rattle.line.proofs.MarksLaws.{all-marked}
-use Rattle.line.proofs.LineLaws.{table-bound, row-within, round-within, round-there}
+use Rattle.line.proofs.LineLaws.{rounds-bound, table-bound, row-within, round-within, round-there}
 use Rattle.broadcast.specs.Broadcast.{part}
 use Rattle.broadcast.specs.Station.{ballot, at}
 use Rattle.broadcast.specs.Bytes.{column}
@@ -39,7 +39,7 @@ module _ (L : Logged) (C : Checkable L) where
   small = table-bound (L .n) (L .t) (L .T) (C .most) (C .fitting .fits)
 
   pub few-rounds : rounds (L .t) ≤ 36
-  few-rounds = omega (arith, C .most, C .fitting .fits .order, C .fitting .fits .room)
+  few-rounds = rounds-bound (L .n) (L .t) (L .T) (C .most) (C .fitting .fits)
 
   pub room : (m : ℕ) → m < rounds (L .t) → m * (L .n * L .n) + L .n * L .n ≤ table-length (L .n) (L .t)
   room m h = round-within (L .n) (L .t) m h

@@ -19,7 +19,7 @@ fn ill_formed(sheet: &[u8]) -> bool
     ensures { λ r. ⌜ r ≡ ill-formed (now (sheet .entry)) ⌝ }
 {
     let k = layout::records(sheet);
-    if 4096 < k {
+    if layout::RECORDS < k {
         return true;
     }
     sheet.len() != 12 + 8 * k

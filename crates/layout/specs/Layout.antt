@@ -38,6 +38,10 @@ first s = two s 6
 abbrev pub most-records : ℕ
 most-records = 4096
 
+-- the bytes of a sheet with so many
+abbrev pub longest-sheet : ℕ
+longest-sheet = 12 + 8 * most-records
+
 -- "Then k records of 8 bytes": k, by the sheet's length
 unfoldable pub records : List ℕ → ℕ
 records s = (length s - 12) / 8

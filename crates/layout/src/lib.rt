@@ -2,10 +2,20 @@
 ghost use mathlib.Core.Path.{_≡_};
 ghost use Prim.Native.Nat.{_+_, _*_, _<_, _≤_};
 ghost use lib.ListN.{length};
-ghost use Rattle.layout.specs.Layout.{header, table-wanted, tables-wanted, first, records};
+ghost use Rattle.layout.specs.Layout.{most-records, longest-sheet, header, table-wanted, tables-wanted, first, records};
 ghost use Rattle.layout.specs.Chain.{is-record};
 ghost use Rattle.layout.specs.Numbers.{numbers-from, no-numbers, record-at};
 use line::Line;
+
+// The most records of a sheet, and the bytes of a sheet with so many.
+pub const RECORDS: usize = 4096;
+
+pub const LONGEST_SHEET: usize = 12 + 8 * RECORDS;
+
+// These are the definitions' numbers: this holds by its contract alone.
+fn constants_agree()
+    ensures { λ _. do ⌜ ((← ⟦RECORDS⟧ .entry) ≡ most-records) × ((← ⟦LONGEST_SHEET⟧ .entry) ≡ longest-sheet) ⌝ }
+{}
 
 // The numbers of a sheet's header. `value` is the number that the sender sends, of w bits.
 pub struct Header {

@@ -35,11 +35,12 @@ rows-between i r n m h k =
 
 -- ---- the largest table
 
--- no accepted line has a longer table
+-- no accepted line has more rounds, or a longer table
+pub rounds-bound : (n t T : ℕ) → n ≤ 32 → Fits n t T → rounds t ≤ 36
+rounds-bound n t T h fits = omega (arith, fits .order, fits .room)
+
 pub table-bound : (n t T : ℕ) → n ≤ 32 → Fits n t T → table-length n t ≤ largest-table
-table-bound n t T h fits =
-    let r : rounds t ≤ 36 = omega (arith, fits) in
-    mul-le-mul (mul-le-mul r h) h
+table-bound n t T h fits = mul-le-mul (mul-le-mul (rounds-bound n t T h fits) h) h
 
 -- and one has it
 pub table-reached : Fits 32 10 10 × (table-length 32 10 ≡ largest-table)

@@ -10,4 +10,4 @@ pub normal-form : Normal-form
 normal-form = rewrite.rewrites
 
 pub one-form : One-form
-one-form s s′ l l′ f f′ v v′ w = rewrite.one-form s s′ f f′ w
+one-form = rewrite.one-form

@@ -20,6 +20,4 @@ Normal-form = (s : List ℕ) (l : ℕ) (f : Fate s) → sheet-verdict s l f ≡ 
 
 -- so sheets that read alike have one normal form
 abbrev pub One-form : Type 0
-One-form =
-    (s s′ : List ℕ) (l l′ : ℕ) (f : Fate s) (f′ : Fate s′) → sheet-verdict s l f ≡ Accepted → sheet-verdict s′ l′ f′ ≡ Accepted
-    → ReadAlike s s′ f f′ → rewritten s f ≡ rewritten s′ f′
+One-form = (s s′ : List ℕ) (f : Fate s) (f′ : Fate s′) → ReadAlike s s′ f f′ → rewritten s f ≡ rewritten s′ f′

@@ -14,7 +14,7 @@ use line::width;
 use refusal::cause::Verdict;
 
 // The most records of a sheet.
-pub(crate) const RECORDS: usize = 4096;
+pub(crate) const RECORDS: usize = layout::RECORDS;
 
 // Where the byte for a bit, a round, from a station, to a station stands in the tables of n stations and `last` rounds. What is counted
 // from 1 comes off at the end.

@@ -16,7 +16,7 @@ use Rattle.line.specs.Ballot.{is-garbled}
 use Rattle.line.specs.Marks.{marked}
 use Rattle.line.specs.Writing.{over}
 use Rattle.line.proofs.CountLaws.{le-or-lt}
-use Rattle.line.proofs.LineLaws.{table-bound, round-within, round-there}
+use Rattle.line.proofs.LineLaws.{rounds-bound, table-bound, round-within, round-there}
 use Rattle.header.specs.Header.{Sound}
 use Rattle.broadcast.specs.Broadcast.{part, speaks, value-of, final-grade, final-flag}
 use Rattle.broadcast.specs.Garbled.{reading, garbled-rounds}
@@ -60,7 +60,7 @@ module _ (R : Run) (bytes₀ : List ℕ) (ready : Playable R bytes₀) where
   small = table-bound (R .n) (R .t) (R .T) (header .most) (header .fits)
 
   pub few-rounds : rounds (R .t) ≤ 36
-  few-rounds = omega (arith, header .most, header .fits .order, header .fits .room)
+  few-rounds = rounds-bound (R .n) (R .t) (R .T) (header .most) (header .fits)
 
   speaker : (r : ℕ) → 1 ≤ r → r ≤ rounds (R .t) → speaker-within (R .n) (from-0 (R .sender)) (as-part (part r)) ≡ true
   speaker = speaker-in (R .n) (R .t) (R .T) (from-0 (R .sender)) (header .fits) (omega (arith, header .sender-low, header .sender-high))

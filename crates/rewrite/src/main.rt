@@ -1,11 +1,11 @@
 // Reads a run sheet on standard input and writes its normal form to standard output; of a sheet that is refused, the line that agree writes.
 ghost use mathlib.Core.Path.{_≡_};
-ghost use Prim.Native.Nat.{_≤_, min};
+ghost use Prim.Native.Nat.{_+_, _≤_, min};
 ghost use lib.ListN.{length, take};
 ghost use Rattle.io.specs.Counts.{Counts};
 ghost use Rattle.line.specs.Width.{largest-tables};
 ghost use Rattle.refusal.specs.declared.cause.Verdict.the-variants.{Accepted};
-ghost use Rattle.layout.specs.Layout.{tables-wanted};
+ghost use Rattle.layout.specs.Layout.{longest-sheet, tables-wanted};
 ghost use Rattle.writer.specs.Sheet.{sheet};
 ghost use Rattle.writer.specs.Judgement.{before-buffer};
 ghost use Rattle.rewrite.specs.Output.{Rewritten};
@@ -17,12 +17,12 @@ use line::Line;
 use reader::Reading;
 use writer::Need;
 
-// The longest sheet, of 4,096 records.
-const LONGEST: usize = 32780;
+// The longest sheet.
+const LONGEST: usize = layout::LONGEST_SHEET;
 
 // Writes a sheet that nothing refuses at the start of the output.
 fn write(header: &[u8], table: &[u8], out: &mut [u8]) -> usize
-    requires { ⌜ (before-buffer (now header) (now table) ≡ Accepted) × (length (now out) ≡ 32780) ⌝ }
+    requires { ⌜ (before-buffer (now header) (now table) ≡ Accepted) × (length (now out) ≡ longest-sheet) ⌝ }
     ensures { λ r. ⌜ (r ≤ length (now (out .exit))) × (take r (now (out .exit)) ≡ sheet (now (header .entry)) (now (table .entry))) ⌝ }
 {
     let need = writer::needed(header, table);
@@ -37,7 +37,7 @@ fn write(header: &[u8], table: &[u8], out: &mut [u8]) -> usize
 
 // Reads a sheet into the tables of all bits, and writes what was read.
 fn rewrite(sheet: &[u8], table: &mut [u8], out: &mut [u8]) -> usize
-    requires { ⌜ (length (now table) ≡ min (tables-wanted (now sheet)) largest-tables) × (length (now out) ≡ 32780) ⌝ }
+    requires { ⌜ (length (now table) ≡ min (tables-wanted (now sheet)) largest-tables) × (length (now out) ≡ longest-sheet) ⌝ }
     ensures { λ r. ⌜ Rewritten (now (sheet .entry)) (now (out .exit)) r ⌝ }
 {
     let reading = reader::read(sheet, table);
@@ -65,10 +65,11 @@ fn put(sheet: &[u8]) {
     }
 }
 
-// One byte more than the longest sheet tells that an input is longer.
-fn main() {
-    let mut sheet = [0u8; 32781];
-    match input::whole(STDIN_FILENO, &mut sheet) {
+// Reads a sheet, into a buffer of one byte more than the longest has: that byte tells that an input is longer.
+fn read(sheet: &mut [u8])
+    requires { ⌜ length (now sheet) ≡ longest-sheet + 1 ⌝ }
+{
+    match input::whole(STDIN_FILENO, sheet) {
         Input::Bytes(n) => put(&sheet[..n]),
         Input::Failed => {
             io::write_all(
@@ -77,4 +78,9 @@ fn main() {
             );
         }
     }
+}
+
+fn main() {
+    let mut sheet = [0u8; layout::LONGEST_SHEET + 1];
+    read(&mut sheet);
 }

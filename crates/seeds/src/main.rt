@@ -1,11 +1,11 @@
 // Reads a run sheet on standard input, keeps its header, and writes the listings of the runs that the seeds 1 to 100 generate to standard output; of a sheet that
 // is refused, the line that agree writes.
 ghost use mathlib.Core.Path.{_≡_};
-ghost use Prim.Native.Nat.{_≤_, min};
+ghost use Prim.Native.Nat.{_+_, _≤_, min};
 ghost use lib.ListN.{length};
 ghost use Rattle.io.specs.Counts.{Counts};
 ghost use Rattle.line.specs.Line.{largest-table};
-ghost use Rattle.layout.specs.Layout.{table-wanted};
+ghost use Rattle.layout.specs.Layout.{longest-sheet, table-wanted};
 ghost use Rattle.text.specs.Laid.{Puts};
 ghost use Rattle.listing_lines.specs.Text.{text};
 ghost use Rattle.seeded.specs.Listings.{last-seed, seed-lines, listings, Printed};
@@ -126,13 +126,19 @@ fn put(sheet: &[u8]) {
     }
 }
 
-// The longest sheet has 32,780 bytes; the one more tells that an input is longer.
-fn main() {
-    let mut sheet = [0u8; 32781];
-    match input::whole(STDIN_FILENO, &mut sheet) {
+// Reads a sheet, into a buffer of one byte more than the longest has: that byte tells that an input is longer.
+fn read(sheet: &mut [u8])
+    requires { ⌜ length (now sheet) ≡ longest-sheet + 1 ⌝ }
+{
+    match input::whole(STDIN_FILENO, sheet) {
         Input::Bytes(n) => put(&sheet[..n]),
         Input::Failed => {
             io::write_all(STDERR_FILENO, b"seeds: standard input could not be read\n");
         }
     }
+}
+
+fn main() {
+    let mut sheet = [0u8; layout::LONGEST_SHEET + 1];
+    read(&mut sheet);
 }

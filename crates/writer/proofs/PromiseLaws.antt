@@ -11,6 +11,7 @@ use lib.Seq.{drop-length}
 use borrow.Author.Tests.{eqb-true, ne-eqb, not-false, lt-ltb, le-ltb, ltb-false}
 use Rattle.line.specs.Line.{rounds}
 use Rattle.line.specs.Width.{tables-length}
+use Rattle.line.proofs.LineLaws.{rounds-bound}
 use Rattle.refusal.specs.Cause.{code, written, given}
 use Rattle.refusal.specs.declared.cause.Cause.{Cause}
 use Rattle.refusal.specs.declared.cause.Cause.the-variants.{Length, TooManyRecords}
@@ -76,7 +77,7 @@ module _ (h : List ℕ) (l : ℕ) (e : header-and-table h l ≡ verdict.Accepted
   taken-length = opening-length h l (taken-both .1)
 
   pub taken-short : rounds (header h .t) ≤ 36
-  taken-short = omega (arith, taken-sound .most, taken-sound .fits)
+  taken-short = rounds-bound _ _ _ (taken-sound .most) (taken-sound .fits)
 
 module _ (h table : List ℕ) where
   -- what is counted is what is to be written

@@ -38,7 +38,7 @@ fn records_needed(header: &[u8], table: &[u8]) -> Need
     ensures { λ r. ⌜ Needs (now (header .entry)) (now (table .entry)) r ⌝ }
 {
     let k = selection::count(layout::header_of(header), table);
-    if 4096 < k {
+    if layout::RECORDS < k {
         return Need::Refused(Cause::TooManyRecords);
     }
     Need::Bytes(12 + 8 * k)
