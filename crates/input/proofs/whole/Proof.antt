@@ -2,9 +2,9 @@
 use borrow.Author.Needs.{needs}
 use native.Mathlib.Omega.{arith}
 use Prim.Native.Nat.{_-_, _≤_}
-use mathlib.Core.Path.{_≡_}
+use mathlib.Core.Path.{_≡_, sym, _∙_}
 use lib.ListN.{length}
-use Rattle.input.proofs.ReadingLaws.{counts, told}
+use Rattle.input.proofs.ReadingLaws.{counts, on-means, end-means, roomy}
 use Rattle.input.proofs.whole.Statement.{statement}
 use Rattle.input.proofs.whole.Tie as tie
 
@@ -29,38 +29,42 @@ part-once-end c = search needs
 once-requires : tie.Need-once-requires Inv-loop μ-loop
 once-requires c κs = search needs
 
-enum-known-more : tie.Need-enum-known-more Inv-loop μ-loop
-enum-known-more c = search needs
+following-requires : tie.Need-following-requires Inv-loop μ-loop
+following-requires c κs =
+    let o = c .before .before .once in
+    roomy (c .before .before .before .before .before .loop .done) (o .last .1 .0) (o .result) (o .ensures) (omega arith)
 
-enum-told : tie.Need-enum-told Inv-loop μ-loop
-enum-told c = search needs
+enum-known-there : tie.Need-enum-known-there Inv-loop μ-loop
+enum-known-there c = search needs
+
+loop-less : tie.Need-loop-less Inv-loop μ-loop
+loop-less c =
+    let o = c .before .before .before .before .before .before .once in
+    let m = on-means (c .before .before .before .before .before .before .before .before .before .loop .done) (o .last .1 .0) (o .result) _ (sym (c .before .before .before .following .ensures) ∙ c .before .there .given .1) (o .ensures) in
+    omega (arith, m)
+
+loop-again : tie.Need-loop-again Inv-loop μ-loop
+loop-again c =
+    let o = c .before .before .before .before .before .before .once in
+    let m = on-means (c .before .before .before .before .before .before .before .before .before .loop .done) (o .last .1 .0) (o .result) _ (sym (c .before .before .before .following .ensures) ∙ c .before .there .given .1) (o .ensures) in
+    (search needs, omega (arith, m))
+
+enum-known-answer : tie.Need-enum-known-answer Inv-loop μ-loop
+enum-known-answer c = search needs
 
 same-length : tie.Need-same-length Inv-loop μ-loop
 same-length c = search needs
 
 returns : tie.Need-returns Inv-loop μ-loop
-returns c = search needs
+returns c =
+    let o = c .before .before .before .before .before .before .once in
+    end-means (c .before .before .before .before .before .before .before .before .before .loop .done) (o .last .1 .0) (o .result) _ _ (sym (c .before .before .before .following .ensures) ∙ c .before .answer .given .1) (omega arith)
 
 same-length-2 : tie.Need-same-length-2 Inv-loop μ-loop
 same-length-2 c = search needs
 
 returns-2 : tie.Need-returns-2 Inv-loop μ-loop
 returns-2 c = counts _ _ (omega arith)
-
-add-done : tie.Need-add-done Inv-loop μ-loop
-add-done c = omega (arith, told (c .before .before .more .given .1) _ (c .before .before .before .before .before .before .once .ensures))
-
-loop-less : tie.Need-loop-less Inv-loop μ-loop
-loop-less c = search needs
-
-loop-again : tie.Need-loop-again Inv-loop μ-loop
-loop-again c = (search needs, omega (arith, told (c .before .before .more .given .1) _ (c .before .before .before .before .before .before .once .ensures)))
-
-same-length-3 : tie.Need-same-length-3 Inv-loop μ-loop
-same-length-3 c = search needs
-
-returns-3 : tie.Need-returns-3 Inv-loop μ-loop
-returns-3 c = counts _ _ (omega arith)
 
 pub whole-spec : {M : Type 1} → statement M
 whole-spec =
@@ -73,14 +77,12 @@ whole-spec =
     part-once-start
     part-once-end
     once-requires
-    enum-known-more
-    enum-told
+    following-requires
+    enum-known-there
+    loop-less
+    loop-again
+    enum-known-answer
     same-length
     returns
     same-length-2
-    returns-2
-    add-done
-    loop-less
-    loop-again
-    same-length-3
-    returns-3)
+    returns-2)
