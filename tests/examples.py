@@ -406,13 +406,14 @@ def audits():
 
 
 def odd_logs():
-    """Lines, logs and outcomes that are refused, and one of 32 stations that all broke the rules."""
+    """Lines, logs and outcomes that are refused, and one of 32 stations that all broke the rules; with a byte more than the longest too."""
     line, log, outcomes = foreign()
     yield from (((0, 1, 1, 2), log, outcomes), ((33, 1, 1, 2), log, outcomes), ((5, 2, 1, 2), log, outcomes), ((5, 1, 2, 2), log, outcomes))
     yield from (((5, 1, 1, 0), log, outcomes), ((5, 1, 1, 6), log, outcomes), ((255,) * 4, log, outcomes), ((0, 1, 0, 0), b"", b""))
     yield from ((line, log[:-1], outcomes), (line, log + b"\0", outcomes), (line, b"", outcomes), (line, log, b""), (line, outcomes, log))
     yield from ((line, log, outcomes[:-1]), (line, log, outcomes + b"\0"), (line, bytes(10 * reader.LARGEST_TABLE), outcomes), (line, log, bytes(70000)))
-    yield (32, 10, 10, 32), bytes(reader.LARGEST_TABLE), bytes(32 * model.OUTCOME)
+    for more, beyond in (0, 0), (1, 0), (0, 1):
+        yield (32, 10, 10, 32), bytes(reader.LARGEST_TABLE + more), bytes(32 * model.OUTCOME + beyond)
 
 
 def odd_words():

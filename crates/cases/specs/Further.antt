@@ -171,7 +171,7 @@ headed sender value marks o = record { sheet = head 4 1 1 sender value 0 marks; 
 abbrev pub chained : ℕ → List ℕ → Wanted → Case
 chained first records o = record { sheet = head 4 1 1 1 1 first 8 ++ records; comes-out = o }
 
--- ---- rewritten: "rewriting a read sheet drops unchained records and records of silence" (document 02, Ticket 1)
+-- ---- rewritten: "rewriting a read sheet drops unchained records and records of silence" (document 02, request 1)
 
 -- record 1 is not chained, and the chain goes from record 4 over 3, which is of silence, to 2 and 5: a garbled byte is written, in the order of the table
 abbrev pub untidy : Case

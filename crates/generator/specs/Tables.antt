@@ -1,4 +1,4 @@
--- The generated run tables (document 02, Ticket 7), by their places. A place of the bits' tables, one after another, tells its sender (`from-at` of crate selection),
+-- The generated run tables (document 02, request 7), by their places. A place of the bits' tables, one after another, tells its sender (`from-at` of crate selection),
 -- counted from 0.
 use Prim.Native.Nat.{ℕ, suc, _*_, _%_}
 use mathlib.Core.Bool.{Bool}

@@ -1,4 +1,4 @@
--- The statements that proofs/Theorems.antt proves, each under the same name in lower case (document 02, Ticket 3). Their hypotheses are the documents', and where
+-- The statements that proofs/Theorems.antt proves, each under the same name in lower case (document 02, request 3). Their hypotheses are the documents', and where
 -- one of these is not needed it is left out.
 use Prim.Native.Nat.{ℕ, _+_, _*_, _≤_, _<_}
 use mathlib.Core.Path.{_≡_}

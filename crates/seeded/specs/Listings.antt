@@ -1,4 +1,4 @@
--- What the program seeds prints (document 02, Ticket 7): "A program reads one sheet, keeps its header and prints the listings for seeds 1 to 100."
+-- What the program seeds prints (document 02, request 7): "A program reads one sheet, keeps its header and prints the listings for seeds 1 to 100."
 use Prim.Native.Nat.{ℕ, zero, suc}
 use mathlib.Core.List.{List, [], _++_}
 use Rattle.refusal.specs.declared.cause.Verdict.the-variants.{Accepted}

@@ -1,4 +1,4 @@
--- What writing is refused by (document 02, Ticket 1): each cause a test of its own, in the order that the ticket gives.
+-- What writing is refused by (document 02, request 1): each cause a test of its own, in the order that the ticket gives.
 use Prim.Native.Nat.{ℕ}
 use mathlib.Core.List.{List}
 use lib.Dec.{ltb}

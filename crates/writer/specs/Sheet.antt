@@ -1,4 +1,4 @@
--- The written sheet (document 01, "The run sheet"; document 02, Ticket 1): its header, handed in as the list of its bytes, then its records. Crate record has the bytes
+-- The written sheet (document 01, "The run sheet"; document 02, request 1): its header, handed in as the list of its bytes, then its records. Crate record has the bytes
 -- of each.
 use Prim.Native.Nat.{ℕ, zero, suc, _+_, _*_}
 use mathlib.Core.List.{List, [], _++_}

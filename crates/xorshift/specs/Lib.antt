@@ -1,3 +1,3 @@
--- The generator's state (document 02, Ticket 7): State has one step and any number of them, Theorems what is shown of the definitions.
+-- The generator's state (document 02, request 7): State has one step and any number of them, Theorems what is shown of the definitions.
 pub mod State
 pub mod Theorems

@@ -1,4 +1,4 @@
--- The generator's state (document 02, Ticket 7), a number below 2^32. Generators of this kind are known as xorshift.
+-- The generator's state (document 02, request 7), a number below 2^32. Generators of this kind are known as xorshift.
 use Prim.Native.Nat.{ℕ, zero, suc, _*_, _/_, _%_, _^_}
 use lib.Bits.{bitXor}
 
