@@ -3,7 +3,7 @@
 
 Every path and every definition, statement, function or file that a document sets in backticks is there, and those that
 docs/AUDIT.md lays beside the papers stand in the file that it names; every wrong program that it names is there, and
-every one that is there is named. README.md's picture of the crates is that of crates.txt, which lists what each names and
+every one that is there is named, and so is every public call. README.md's picture of the crates is that of crates.txt, which lists what each names and
 no more. Prints what fails, then 'N passed, M failed'.
 """
 import pathlib
@@ -78,6 +78,14 @@ def edits():
         yield f"wrong program {name}: in docs/AUDIT.md and in {where}", (name, star) in told and (name, star) in there
 
 
+def calls():
+    """Every public function of a crate, and whether docs/AUDIT.md names it."""
+    text = (TOP / "docs/AUDIT.md").read_text(encoding="utf-8")
+    for file in sorted(TOP.glob("crates/*/src/**/*.rt")):
+        for name in re.findall(r"^ *pub (?:extern \"C\" )?fn (\w+)", file.read_text(encoding="utf-8"), re.M):
+            yield f"docs/AUDIT.md: the call {name} of {file.relative_to(TOP)}", re.search(rf"`(?:\w+::)*{name}[`(]", text)
+
+
 def listed():
     """The areas of crates.txt in its order, each with its crates, and what each crate is listed with."""
     areas, uses = {}, {}
@@ -127,4 +135,4 @@ def crates():
 
 
 if __name__ == "__main__":
-    sys.exit(not closing([*names(words()), *definitions(), *edits(), *crates()]))
+    sys.exit(not closing([*names(words()), *definitions(), *edits(), *calls(), *crates()]))
