@@ -488,7 +488,7 @@ class Copy:
 
 def reached(crate):
     """The crate and those of the repository that it needs."""
-    rows = [row.split(":") for row in (TOP / "crates.txt").read_text().splitlines() if not row.startswith("#")]
+    rows = [row.split(":") for row in (TOP / "crates.txt").read_text().splitlines() if row and not row.startswith("#")]
     needs = {name: words.split() for name, words in rows}
     found, ahead = set(), [crate]
     while ahead:
