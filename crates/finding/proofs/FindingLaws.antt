@@ -1,5 +1,5 @@
 -- Laws of the line: a number that is there or not, one station more, and the line's length. Assumes nothing.
-use Prim.Native.Nat.{ℕ, zero, suc, _+_, _-_, _*_, _/_, _%_, _≤_, _<_, min}
+use Prim.Native.Nat.{ℕ, zero, suc, _+_, _-_, _*_, _≤_, _<_, min}
 use mathlib.Core.Path.{_≡_, refl}
 use mathlib.Core.Bool.{Bool, true, false}
 use mathlib.Core.List.{List, [], _∷_}
@@ -7,16 +7,14 @@ use mathlib.Core.Logic.{_⊎_, inl, inr}
 use native.Mathlib.Omega.{arith}
 use native.Mathlib.Nat.{le-of-eq}
 use native.Mathlib.Numerals.{add-one}
-use lib.Dec.{ltb}
 use lib.ListN.{length, length-append}
-use borrow.Author.Tests.{lt-ltb}
 use Rattle.line.specs.Count.{if_then_else_}
 use Rattle.line.specs.Marks.{marked}
 use Rattle.line.proofs.CountLaws.{le-or-lt}
 use Rattle.refusal.specs.Cause.{number}
 use Rattle.checker.specs.declared.Checked.{Checked}
 use Rattle.checker.specs.declared.Checked.the-variants.{Broke, Refused}
-use Rattle.text.specs.Decimal.{space, digit, decimal, numeral}
+use Rattle.text.specs.Decimal.{space, decimal, numeral}
 use Rattle.text.specs.Laid.{Puts}
 use Rattle.text.proofs.DecimalLaws.{one-digit, two-digits, decimal-numeral}
 use Rattle.text.proofs.LaidLaws.{puts-then}

@@ -17,8 +17,7 @@ use Rattle.layout.specs.Layout.{header, table-wanted}
 use Rattle.layout.specs.Chain.{Fate}
 use Rattle.reader.specs.Reading.{table-of, bit-table}
 use Rattle.text.specs.Laid.{Puts}
-use Rattle.listing_lines.specs.Lines.{lines-by, run, verdict}
-use Rattle.listing_lines.specs.Text.{text}
+use Rattle.listing_lines.specs.Lines.{run, verdict}
 use Rattle.listing.specs.Promise.{last-bit, lent-verdict, listing}
 
 -- bit b of a header's number, whatever the call answered

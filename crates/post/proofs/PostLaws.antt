@@ -13,7 +13,7 @@ use Rattle.line.specs.Count.{if_then_else_}
 use Rattle.line.specs.Line.{has-round}
 use Rattle.line.specs.Marks.{marked}
 use Rattle.line.specs.Writing.{over}
-use Rattle.line.proofs.LineLaws.{next-row, row-within, round-means}
+use Rattle.line.proofs.LineLaws.{next-row, round-means}
 use Rattle.line.proofs.WritingLaws.{spliced, over-part, over-on, over-same, over-at, over-before, over-length}
 use Rattle.line.proofs.CountLaws.{if-true, if-false}
 use Rattle.post.specs.Posted.{ballot-at, posted, same, from-table, Alike}

@@ -1,16 +1,14 @@
 -- Laws of a bit's outcomes added to those below: the bytes put, station by station, and that they are those of one bit more. Assumes nothing.
 use Prim.Native.Nat.{ℕ, zero, suc, _+_, _-_, _*_, _/_, _%_, _^_, _≤_, _<_}
 use mathlib.Core.Path.{_≡_, refl, sym, ap, _∙_}
-use mathlib.Core.Bool.{Bool, true, false}
 use mathlib.Core.Logic.{_≢_}
 use mathlib.Core.List.{List}
 use native.Mathlib.Omega.{arith}
 use native.Mathlib.Nat.{add-zero, mul-assoc, mul-le-mul, pow-le-pow-right, mod-eq-of-lt}
-use lib.Dec.{eqb}
-use lib.ListN.{length, getD, set, length-set}
-use lib.Seq.{getD-set-same, getD-set-other, ext-getD, set-getD}
+use lib.ListN.{length, getD}
+use lib.Seq.{ext-getD, set-getD}
 use lib.Pow.{pow-add}
-use borrow.Author.Tests.{eq-eqb, ne-eqb, eqb-true, eqb-false}
+use borrow.Author.Tests.{eq-eqb, ne-eqb}
 use Rattle.line.specs.Line.{outcome-size}
 use Rattle.line.specs.Writing.{over}
 use Rattle.line.proofs.WritingLaws.{over-length, over-after, over-on, front-at}

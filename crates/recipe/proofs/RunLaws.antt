@@ -5,11 +5,11 @@ use mathlib.Core.Bool.{Bool, true, false}
 use mathlib.Core.Logic.{_≢_, _⊎_, inl, inr}
 use mathlib.Core.List.{List, _++_}
 use native.Mathlib.Omega.{arith}
-use native.Mathlib.Nat.{suc-mul, zero-mul, mul-le-mul-right, mod-eq-of-lt, pow-le-pow-right}
+use native.Mathlib.Nat.{suc-mul, zero-mul, mod-eq-of-lt, pow-le-pow-right}
 use native.Mathlib.Numerals.{add-one}
 use lib.Dec.{eqb}
-use lib.ListN.{length, getD, take, drop, length-append, length-drop, List·getD-append}
-use lib.Seq.{getD-take, getD-append-add, length-take-le, ext-getD}
+use lib.ListN.{length, getD, take, drop}
+use lib.Seq.{ext-getD}
 use borrow.Author.Tests.{eq-eqb, ne-eqb, eqb-true, eqb-false}
 use Rattle.line.specs.Count.{if_then_else_}
 use Rattle.line.specs.Line.{outcome-size, outcomes-length, table-length}
@@ -23,7 +23,7 @@ use Rattle.refusal.specs.declared.cause.Verdict.{Verdict}
 use Rattle.refusal.specs.declared.cause.Verdict.the-variants.{Accepted}
 use Rattle.header.specs.Header.{SoundNumber}
 use Rattle.header.proofs.HeaderLaws.{header-accepts, length-accepts, bit-sound}
-use Rattle.broadcast.specs.Bytes.{log, outcomes, pick, outcome-byte, outcome-bytes, setting}
+use Rattle.broadcast.specs.Bytes.{log, pick, outcome-byte, outcome-bytes, setting}
 use Rattle.broadcast.specs.Guarantees.{Good}
 use Rattle.broadcast.specs.Station.{at}
 use Rattle.broadcast.specs.Theorems.{value-at, grade-at}

@@ -4,7 +4,7 @@ use mathlib.Core.Path.{_≡_}
 use mathlib.Core.List.{List}
 use lib.ListN.{length, getD, set}
 use Rattle.line.specs.Line.{table-length, outcome-size, outcomes-length}
-use Rattle.line.specs.Width.{bits, tables-length}
+use Rattle.line.specs.Width.{tables-length}
 use Rattle.header.specs.Header.{SoundNumber}
 use Rattle.broadcast.specs.Bytes.{log}
 use Rattle.number.specs.Numbers.{NumberRun, bit-run, logs, gathered, bit-outcomes, number-outcomes}

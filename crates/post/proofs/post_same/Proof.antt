@@ -2,7 +2,6 @@
 use borrow.Author.Needs.{needs}
 use native.Mathlib.Omega.{arith}
 use Prim.Native.Nat.{_+_, _-_}
-use mathlib.Core.Path.{_≡_}
 use Rattle.line.proofs.WritingLaws.{over-filled}
 use Rattle.post.specs.Posted.{same}
 use Rattle.post.proofs.post_same.Statement.{statement}

@@ -2,7 +2,6 @@
 use borrow.Author.Needs.{needs}
 use native.Mathlib.Omega.{arith}
 use Prim.Native.Nat.{_+_, _-_}
-use mathlib.Core.Path.{_≡_}
 use Rattle.post.proofs.PostLaws.{over-copied}
 use Rattle.post.proofs.post_table.Statement.{statement}
 use Rattle.post.proofs.post_table.Tie as tie

@@ -2,7 +2,6 @@
 use borrow.Author.Needs.{needs}
 use native.Mathlib.Omega.{arith}
 use Prim.Native.Nat.{_+_, _-_}
-use mathlib.Core.Path.{_≡_}
 use Rattle.line.proofs.WritingLaws.{over-filled}
 use Rattle.generator.specs.Loops.{silent-byte}
 use Rattle.generator.proofs.rows.silent_row.Statement.{statement}
