@@ -24,10 +24,11 @@ pub record Singly (n t T sender : ℕ) (log outcomes : List ℕ) (i v : ℕ) : T
   pub done : result-answer (station (rounds t))
       ≡ station-result.Done (value-at outcomes i) (grade-at outcomes i) (flag-at outcomes i) (garbled-at outcomes i)
 
--- the same of the automaton (`Singly-by-automaton`): its ballots are the log's, and it ends with these bytes
+-- station i of the line as the automaton's setup
 abbrev pub setup-at : ℕ → ℕ → ℕ → ℕ → ℕ → Setup
 setup-at n t T sender i = record { n = n; t = t; T = T; sender-from-0 = from-0 sender; own-from-0 = i }
 
+-- the same of the automaton (`Singly-by-automaton`): its ballots are the log's, and it ends with these bytes
 pub record Automatic (n t T sender : ℕ) (log outcomes : List ℕ) (i v : ℕ) : Type 0 where
   pub ballots : (m j : ℕ) → m < rounds t → j < n
       → ballot (setup-at n t T sender i) (after (setup-at n t T sender i) v (column n log i) m) ≡ at log (place n (m + 1) i j)
