@@ -1,5 +1,7 @@
 // The steps at all stations of a line at once, from their bytes and counts. The place i of an array is the station counted i from 0; places beyond n are of no
 // station, and filled all the same: loops of a fixed length are the quickest.
+#![tactic(auto)]
+
 ghost use Rattle.std.specs.Prelude.{get_or, ◌≡◌};
 ghost use Rattle.line.specs.Ballot.{sender_value, read_king};
 ghost use Rattle.line.specs.Writing.{Each};

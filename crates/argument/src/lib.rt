@@ -1,8 +1,10 @@
 // A number among a program's arguments.
+#![tactic(auto)]
+
 ghost use Rattle.std.specs.Prelude.{◌≡◌, ◌+◌, ◌-◌, ◌*◌, ◌≤◌, min};
 ghost use Rattle.argument.specs.Argument.{digit_byte, argument};
 
-#[derive(Drop)]
+#[derive(Clone, Copy)]
 pub enum Argument {
     // A decimal number; one above 255 is told as 255.
     Number(u8),

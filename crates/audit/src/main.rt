@@ -1,5 +1,7 @@
 // Reads a log and outcomes and tells which stations broke the rules. Arguments: n, t, T and the sender in decimal, then the names of the log's and of the
 // outcomes' file.
+#![tactic(auto)]
+
 ghost use Rattle.std.specs.Prelude.{◌≡◌, ◌+◌, length, take};
 ghost use Rattle.io.specs.Counts.{IsPrefixLen};
 ghost use Rattle.input.specs.Reading.{Within};

@@ -1,5 +1,7 @@
 // The checker of logs from other makers: all stations are followed through the rounds of a log, each on the rows that it received there, and who sends otherwise or
 // ends otherwise broke the rules. The place i of an array is the station counted i from 0.
+#![tactic(auto)]
+
 ghost use Rattle.std.specs.Prelude.{◌≡◌, ◌+◌, ◌*◌, ◌≤◌, ◌<◌, [], length};
 ghost use Rattle.line.specs.Count.{if◌then◌else◌};
 ghost use Rattle.line.specs.Line.{rounds, outcome_size, outcomes_length};
@@ -13,14 +15,14 @@ use refusal::cause::{Cause, Verdict};
 use round::Stations;
 
 // The answer: bit i - 1 is 1 if station i broke the rules.
-#[derive(Drop)]
+#[derive(Clone, Copy)]
 pub enum Checked {
     Broke(u32),
     Refused(Cause),
 }
 
 // The stations after some rounds, and 1 for each that has sent what it should.
-#[derive(Drop)]
+#[derive(Clone, Copy)]
 struct Course {
     stations: Stations,
     kept: [u8; 32],

@@ -1,4 +1,6 @@
 // What all receivers get in a round: a sender's bytes to all stand side by side in the log, those to one receiver are a column, and all columns are counted at once.
+#![tactic(auto)]
+
 ghost use Rattle.std.specs.Prelude.{◌≡◌, ◌+◌, ◌-◌, ◌*◌, ◌≤◌, ◌<◌, length};
 ghost use Rattle.line.specs.Writing.{Each};
 ghost use Rattle.column.specs.Column.{AtMost, each_of, byte_to, hit, more, counted, count_of, sent_by, block_at};

@@ -1,4 +1,6 @@
 // What the stations send in a round, beside what they should: a sender's bytes to all stand side by side in the log.
+#![tactic(auto)]
+
 ghost use Rattle.std.specs.Prelude.{◌≡◌, ◌+◌, ◌*◌, ◌≤◌, length};
 ghost use Rattle.line.specs.Count.{if◌then◌else◌};
 ghost use Rattle.line.specs.Writing.{Each};

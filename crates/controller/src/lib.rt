@@ -1,5 +1,7 @@
 // The station for a bonder's controller in C: numbers, and the row's byte slice. C keeps the five numbers that the station was opened with and
 // a state of five bytes. Each answer is 64 bits: the documents' number of the refusal in the highest byte, 0 where nothing is refused, and the values below.
+#![tactic(auto)]
+
 ghost use Rattle.std.specs.Prelude.{◌≡◌};
 ghost use Rattle.controller.specs.Words.{station_of, state_word, opened_word, told_word, advanced_word, result_word};
 ghost use Rattle.controller.specs.Words.{OpenAnswer, BallotAnswer, AdvanceAnswer, ResultAnswer};

@@ -1,4 +1,6 @@
 // The graded exchange of a whole line, had alone.
+#![tactic(auto)]
+
 ghost use Rattle.std.specs.Prelude.{◌≡◌, not, ◌&&◌, ◌≤◌, ltb, length};
 ghost use Rattle.line.specs.Line.{exchange_length, outcomes_length};
 ghost use Rattle.line.specs.Writing.{Each};

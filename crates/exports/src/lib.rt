@@ -1,6 +1,8 @@
 // The calls on whole lines for other languages: numbers and byte slices, and the documents' number of the refusal as the answer, 0 where nothing is
 // refused; of the writer's calls and the checker it stands in the highest byte, above what the call gives. Each promises what the call that it passes on
 // promises.
+#![tactic(auto)]
+
 ghost use Rattle.std.specs.Prelude.{◌≡◌};
 ghost use Rattle.reader.specs.Reading.{reading_number};
 ghost use Rattle.recipe.specs.Promise.{number_run_of};

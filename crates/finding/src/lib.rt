@@ -1,5 +1,7 @@
 // The line that tells what the checker found, put at the start of a lent buffer as far as the buffer goes: `broke` and the stations' numbers, or `refused` and the
 // number of the cause.
+#![tactic(auto)]
+
 ghost use Rattle.std.specs.Prelude.{◌<◌};
 ghost use Rattle.text.specs.Laid.{Puts};
 ghost use Rattle.finding.specs.Finding.{number_if, numbers, broke_line, finding};

@@ -1,4 +1,6 @@
 // The generator of noisy runs: a header of any bytes and a seed give run tables, one for each bit, in a lent buffer, or the one refusal.
+#![tactic(auto)]
+
 ghost use Rattle.std.specs.Prelude.{◌≡◌};
 ghost use Rattle.generator.specs.Judgement.{generate_verdict};
 ghost use Rattle.generator.specs.Promise.{Fills, Generates};

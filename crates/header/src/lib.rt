@@ -1,4 +1,6 @@
 // The judgement of a header's numbers, causes 2 to 6, the lowest first, and of a recipe number's, 15 before these; and of a length, cause 8.
+#![tactic(auto)]
+
 ghost use Rattle.std.specs.Prelude.{◌≡◌, ◌^◌, leb};
 ghost use Rattle.line.specs.Marks.{mark_beyond};
 ghost use Rattle.line.specs.Width.{bits};

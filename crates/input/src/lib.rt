@@ -1,8 +1,10 @@
 // An input read to its end, where a read that fails is told apart from the end.
+#![tactic(auto)]
+
 ghost use Rattle.std.specs.Prelude.{◌≡◌};
 ghost use Rattle.input.specs.Reading.{of_read, Within, Room, following};
 
-#[derive(Drop)]
+#[derive(Clone, Copy)]
 pub enum Input {
     // So many bytes stand at the start of the buffer.
     Bytes(usize),
@@ -29,7 +31,7 @@ fn once(fd: i32, buf: &mut [u8]) -> Input
 }
 
 // What is to be done after a read.
-#[derive(Drop)]
+#[derive(Clone, Copy)]
 enum Next {
     // To read on, with so many bytes there.
     On(usize),

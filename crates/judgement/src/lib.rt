@@ -1,4 +1,6 @@
 // The judgement of a run sheet: causes 1 to 8 and 15, and 11 and 12 of a record's numbers. Causes 9, 10 and 13 want the chain, which crate reader walks.
+#![tactic(auto)]
+
 ghost use Rattle.std.specs.Prelude.{◌≡◌, not, ◌-◌, ◌≤◌};
 ghost use Rattle.line.specs.Line.{from_0};
 ghost use Rattle.line.specs.Marks.{marked};

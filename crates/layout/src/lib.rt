@@ -1,4 +1,6 @@
 // The run sheet byte by byte: the header's numbers, and the records by their indices. Past the sheet's end zeros are read.
+#![tactic(auto)]
+
 ghost use Rattle.std.specs.Prelude.{◌≡◌, ◌+◌, ◌*◌, ◌<◌, ◌≤◌, length};
 ghost use Rattle.layout.specs.Layout.{most_records, longest_sheet, header, table_wanted, tables_wanted, first, records};
 ghost use Rattle.layout.specs.Chain.{is_record};
@@ -17,7 +19,7 @@ fn constants_agree()
 {}
 
 // The numbers of a sheet's header. `value` is the number that the sender sends, of w bits.
-#[derive(Drop)]
+#[derive(Clone, Copy)]
 pub struct Header {
     pub n: u8,
     pub t: u8,
@@ -29,7 +31,7 @@ pub struct Header {
 }
 
 // The numbers of a record. `rest` is its last byte.
-#[derive(Drop)]
+#[derive(Clone, Copy)]
 pub struct Record {
     pub round: u8,
     pub from: u8,

@@ -1,4 +1,6 @@
 // A lent station: the caller's own is advanced by one row where it stands. C can call it too, with the struct's ten bytes.
+#![tactic(auto)]
+
 ghost use Rattle.std.specs.Prelude.{◌≡◌};
 ghost use Rattle.lent.specs.Lent.{taken, AdvancesLent};
 
@@ -7,7 +9,7 @@ use state::Station;
 use station::Advanced;
 
 // What a row makes of a station: the one after it, or the number of the cause by which the row is refused.
-#[derive(Drop)]
+#[derive(Clone, Copy)]
 pub enum Taken {
     Next(Station),
     Refused(u8),

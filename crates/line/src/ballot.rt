@@ -6,7 +6,7 @@ ghost use Rattle.line.specs.Ballot.{bit_round, blank_round, read_sender, read_fi
 use crate::Line;
 
 // Which it was: a bit; a blank, where the round has one; silence; or garbled, a byte that its round has no meaning for.
-#[derive(Drop)]
+#[derive(Clone, Copy)]
 pub enum Ballot {
     Bit(u8),
     Blank,

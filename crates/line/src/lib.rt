@@ -1,4 +1,6 @@
 // The line of stations: its type with what follows from n, t and T, the readings of a ballot byte, and marks.
+#![tactic(auto)]
+
 ghost use Rattle.std.specs.Prelude.{◌≡◌};
 ghost use Rattle.line.specs.Line.{most_stations, rounds, table_length, has_round, largest_table, exchange_length, outcome_size, outcomes_length, largest_outcomes};
 ghost use Rattle.line.specs.Width.{most_bits, tables_length, largest_tables};
@@ -11,7 +13,7 @@ pub mod width;
 
 // A line of n stations with the thresholds t and T (document 01, "Names"). T is called upper in code, where names by convention are lower case.
 // Any bytes at all may stand in it: header::line_verdict judges them.
-#[derive(Drop)]
+#[derive(Clone, Copy)]
 pub struct Line {
     pub n: u8,
     pub t: u8,
@@ -100,15 +102,15 @@ impl Line {
 
 // The constants are the definitions' numbers: this holds by its contract alone.
 fn constants_agree()
-    ensures* { do ⌜ ((← (⟦Line::STATIONS⟧).entry) ≡ most_stations) × ((← (⟦Line::BLANK⟧).entry) ≡ blank) × ((← (⟦Line::SILENCE⟧).entry) ≡ silence) × ((← (⟦Line::ALL⟧).entry) ≡ all_marks) ⌝ }
+    ensures { (Line.STATIONS ≡ most_stations) × (Line.BLANK ≡ blank) × (Line.SILENCE ≡ silence) × (Line.ALL ≡ all_marks) }
 {}
 
 // The lengths too.
 fn lengths_agree()
-    ensures* { do ⌜ ((← (⟦Line::LARGEST_TABLE⟧).entry) ≡ largest_table) × ((← (⟦Line::OUTCOME⟧).entry) ≡ outcome_size) × ((← (⟦Line::LARGEST_OUTCOMES⟧).entry) ≡ largest_outcomes) ⌝ }
+    ensures { (Line.LARGEST_TABLE ≡ largest_table) × (Line.OUTCOME ≡ outcome_size) × (Line.LARGEST_OUTCOMES ≡ largest_outcomes) }
 {}
 
 // And those of recipe numbers.
 fn widths_agree()
-    ensures* { do ⌜ ((← (⟦Line::BITS⟧).entry) ≡ most_bits) × ((← (⟦Line::LARGEST_TABLES⟧).entry) ≡ largest_tables) ⌝ }
+    ensures { (Line.BITS ≡ most_bits) × (Line.LARGEST_TABLES ≡ largest_tables) }
 {}

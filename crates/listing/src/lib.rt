@@ -1,4 +1,6 @@
 // The listing of a run sheet: the sheet is read and rehearsed one bit after another, in one table and one log, and the text written into a lent buffer.
+#![tactic(auto)]
+
 ghost use Rattle.std.specs.Prelude.{◌≡◌, ◌+◌, ◌<◌, length};
 ghost use Rattle.line.specs.Width.{bits};
 ghost use Rattle.listing.specs.Promise.{Lists};

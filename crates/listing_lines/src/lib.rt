@@ -1,4 +1,6 @@
 // The lines of a listing, put into a lent buffer as far as the buffer goes: those of a run, from a place on, or the one of a refusal, at its start.
+#![tactic(auto)]
+
 ghost use Rattle.std.specs.Prelude.{◌≡◌, [], ◌∷◌, ◌<◌};
 ghost use Rattle.refusal.specs.declared.cause.Verdict.TheVariants.{Accepted};
 ghost use Rattle.text.specs.Laid.{Puts};

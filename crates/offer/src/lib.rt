@@ -1,5 +1,7 @@
 // A row looked at before it is taken (document 02, request 8): an offer shows the state that follows and its ballot, an acceptance steps to it.
 // Neither has a step of its own: both take the row by `station::advance`, and the ballot is what `station::ballot` tells.
+#![tactic(auto)]
+
 ghost use Rattle.std.specs.Prelude.{◌≡◌};
 ghost use Rattle.station.specs.Answers.{ballot_answer, advanced_by};
 ghost use Rattle.offer.specs.Offers.{with_ballot, told_byte, offer_told, same, comparing_verdict, Shows, Accepts};
@@ -12,7 +14,7 @@ use station::{Advanced, Told};
 pub mod word;
 
 // The state that follows, and its ballot. Any bytes may stand in one that is handed in: all six are compared.
-#[derive(Drop)]
+#[derive(Clone, Copy)]
 pub struct Offer {
     pub round: u8,
     pub value: u8,
@@ -23,7 +25,7 @@ pub struct Offer {
 }
 
 // The answer to asking for an offer.
-#[derive(Drop)]
+#[derive(Clone, Copy)]
 pub enum Shown {
     Following(Offer),
     Refused(Cause),

@@ -1,5 +1,7 @@
 // Offer and acceptance for C: on numbers and the row's byte slice, as crate controller has the station's other calls, and the acceptance on a lent station, as crate lent
 // has the taking of a row. An offer is a number of 64 bits, and looked at whole.
+#![tactic(auto)]
+
 ghost use Rattle.std.specs.Prelude.{◌≡◌};
 ghost use Rattle.offer_calls.specs.Words.{OfferAnswer, AcceptAnswer};
 ghost use Rattle.offer_calls.specs.Lent.{accepted, AcceptsLent};

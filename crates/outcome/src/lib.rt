@@ -1,4 +1,6 @@
 // The outcomes of all stations, from their values, grades and counts.
+#![tactic(auto)]
+
 ghost use Rattle.std.specs.Prelude.{◌≡◌, length};
 ghost use Rattle.line.specs.Writing.{over};
 ghost use Rattle.broadcast.specs.Exchange.{flag_of};

@@ -1,4 +1,6 @@
 // A round's ballots, written to the log: sender by sender, a byte for each receiver.
+#![tactic(auto)]
+
 ghost use Rattle.std.specs.Prelude.{◌≡◌, ◌+◌, ◌*◌, ◌≤◌, ◌<◌, length};
 ghost use Rattle.line.specs.Writing.{over};
 ghost use Rattle.post.specs.Posted.{same, from_table, Alike, ballot_at, posted};

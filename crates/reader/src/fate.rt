@@ -5,7 +5,7 @@ ghost use Rattle.reader.specs.Loops.{walked_by, Hit, Fated};
 use refusal::cause::Cause;
 
 // What the walk comes to: so many records, none of them refused; or a cause.
-#[derive(Drop)]
+#[derive(Clone, Copy)]
 pub(crate) enum Walked {
     Accepted(usize),
     Refused(Cause),

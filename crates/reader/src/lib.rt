@@ -1,4 +1,6 @@
 // The reader of run sheets: a sheet of any bytes and a lent buffer of any length give the header's numbers and the tables, or the one refusal.
+#![tactic(auto)]
+
 ghost use Rattle.std.specs.Prelude.{length};
 ghost use Rattle.reader.specs.Reading.{Reads, ReadsBit};
 ghost use Rattle.reader.specs.Loops.{Opened, ReadsPart};
@@ -13,7 +15,7 @@ mod seen;
 mod walk;
 
 // The answer to reading a sheet.
-#[derive(Drop)]
+#[derive(Clone, Copy)]
 pub enum Reading {
     Accepted(Header),
     Refused(Cause),

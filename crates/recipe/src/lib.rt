@@ -1,4 +1,6 @@
 // The rehearsal of a recipe number: a broadcast for each of its bits, one after another, and their outcomes gathered.
+#![tactic(auto)]
+
 ghost use Rattle.std.specs.Prelude.{◌≡◌, ◌≤◌, min, length};
 ghost use Rattle.line.specs.Width.{bit_of};
 ghost use Rattle.rehearsal.specs.Promise.{run_of};

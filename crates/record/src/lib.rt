@@ -1,4 +1,6 @@
 // The header and the records of a run sheet, put into a lent buffer byte by byte. Nothing is put where there is no room.
+#![tactic(auto)]
+
 ghost use Rattle.std.specs.Prelude.{◌≡◌, [], ◌∷◌, ◌+◌, ◌≤◌, length};
 ghost use Rattle.text.specs.Laid.{laid};
 ghost use Rattle.record.specs.Bytes.{low, high, first_index, header_bytes, eight};

@@ -2,7 +2,7 @@
 ghost use Rattle.std.specs.Prelude.{◌≡◌};
 ghost use Rattle.refusal.specs.Cause.{number, code, Judged, refused_if, ◌or-else◌, answer_word};
 
-#[derive(Drop)]
+#[derive(Clone, Copy)]
 pub enum Cause {
     SheetForm,
     StationCount,
@@ -24,7 +24,7 @@ pub enum Cause {
 }
 
 // What judging gives: nothing against it, or a cause.
-#[derive(Drop)]
+#[derive(Clone, Copy)]
 pub enum Verdict {
     Accepted,
     Refused(Cause),

@@ -1,5 +1,7 @@
 // The rehearsal of a whole broadcast: the line's rounds one after the other, and the outcomes. That this is what single stations make of it, put together with the
 // bad ones' bytes, is demand 2 of its promise.
+#![tactic(auto)]
+
 ghost use Rattle.std.specs.Prelude.{◌≡◌, length};
 ghost use Rattle.rehearsal.specs.Promise.{run_of, rehearsal_verdict, Rehearsed};
 ghost use Rattle.rehearsal.specs.Rounds.{Playable, Played, Ran};

@@ -1,4 +1,6 @@
 // Reads a run sheet on standard input and writes its normal form to standard output; of a sheet that is refused, the line that agree writes.
+#![tactic(auto)]
+
 ghost use Rattle.std.specs.Prelude.{◌≡◌, ◌+◌, ◌≤◌, min, length, take};
 ghost use Rattle.io.specs.Counts.{IsPrefixLen};
 ghost use Rattle.line.specs.Width.{largest_tables};

@@ -1,5 +1,7 @@
 // One round of a whole line: what every station tells is posted to the log, and every station takes what the log has for it. The place i of an array is
 // the station counted i from 0; places beyond n are of no station, and open.
+#![tactic(auto)]
+
 ghost use Rattle.std.specs.Prelude.{◌≡◌, ℕ, ◌<◌, true, length};
 ghost use Rattle.line.specs.Line.{has_round};
 ghost use Rattle.step.specs.declared.Part.TheVariants.{Sender, First, Second, King};
@@ -9,7 +11,7 @@ use line::Line;
 use step::Part;
 
 // The stations' values, z and grades, and how many rounds had a garbled ballot for each.
-#[derive(Drop)]
+#[derive(Clone, Copy)]
 pub struct Stations {
     pub value: [u8; 32],
     pub z: [u8; 32],

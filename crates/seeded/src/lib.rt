@@ -1,4 +1,6 @@
 // The rehearsal of a generated run, one bit after another in one table and one log: the state runs on from bit to bit.
+#![tactic(auto)]
+
 ghost use Rattle.std.specs.Prelude.{◌≡◌, ◌+◌, ◌<◌};
 ghost use Rattle.line.specs.Width.{bits};
 ghost use Rattle.seeded.specs.Promise.{seed_verdict, RehearsedSeed};

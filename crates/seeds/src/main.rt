@@ -1,5 +1,7 @@
 // Reads a run sheet on standard input, keeps its header, and writes the listings of the runs that the seeds 1 to 100 generate to standard output; of a sheet that
 // is refused, the line that agree writes.
+#![tactic(auto)]
+
 ghost use Rattle.std.specs.Prelude.{◌≡◌, ◌+◌, ◌≤◌, min, length};
 ghost use Rattle.io.specs.Counts.{IsPrefixLen};
 ghost use Rattle.line.specs.Line.{largest_table};

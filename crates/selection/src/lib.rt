@@ -1,4 +1,6 @@
 // Which bytes of the run tables are written to a sheet: how many there are, by bit, then round, from, to.
+#![tactic(auto)]
+
 ghost use Rattle.std.specs.Prelude.{◌≡◌, ◌+◌, ◌*◌, ◌≤◌, ◌<◌, length};
 ghost use Rattle.line.specs.Count.{if◌then◌else◌, count};
 ghost use Rattle.line.specs.Marks.{marked};

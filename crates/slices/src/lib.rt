@@ -1,4 +1,6 @@
 // What is asked of slices everywhere: the byte at a place that may be past the end, one byte everywhere, and the shorter of two lengths.
+#![tactic(auto)]
+
 ghost use Rattle.std.specs.Prelude.{◌≡◌, ◌≤◌, min, length, get_or, replicate};
 
 // The byte at a place, 0 past the end.

@@ -1,10 +1,11 @@
 // A station's content, and what is refused of it.
+#![tactic(auto)]
 
 pub mod judge;
 
 // What a station is opened with, and its state. Stations are numbered from 1. Any bytes may stand in it: each call judges them.
 #[repr(C)]
-#[derive(Drop)]
+#[derive(Clone, Copy)]
 pub struct Station {
     pub n: u8,
     pub t: u8,

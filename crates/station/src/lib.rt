@@ -1,4 +1,6 @@
 // One station as it runs in a bonder, by value: opened, asked for its ballot, handed the row that it received, asked for its result.
+#![tactic(auto)]
+
 ghost use Rattle.station.specs.Answers.{Opens, Tells, Advances, Results};
 
 use refusal::cause::{Cause, Verdict};
@@ -8,28 +10,28 @@ mod act;
 mod tally;
 
 // The answer to opening.
-#[derive(Drop)]
+#[derive(Clone, Copy)]
 pub enum Opened {
     Ready(Station),
     Refused(Cause),
 }
 
 // The answer to asking for the ballot of the current round.
-#[derive(Drop)]
+#[derive(Clone, Copy)]
 pub enum Told {
     Ballot(u8),
     Refused(Cause),
 }
 
 // The answer to handing over a row.
-#[derive(Drop)]
+#[derive(Clone, Copy)]
 pub enum Advanced {
     Next(Station),
     Refused(Cause),
 }
 
 // The answer to asking for the result.
-#[derive(Drop)]
+#[derive(Clone, Copy)]
 pub enum StationResult {
     Running(u8),
     Done {

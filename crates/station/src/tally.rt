@@ -10,14 +10,14 @@ use line::ballot::Ballot;
 use line::{Line, ballot};
 
 // Of the first round: how many equal v.
-#[derive(Drop)]
+#[derive(Clone, Copy)]
 pub(crate) struct FirstTally {
     pub equal: u8,
     pub garbled: u8,
 }
 
 // Of the second: the zeros and the ones.
-#[derive(Drop)]
+#[derive(Clone, Copy)]
 pub(crate) struct SecondTally {
     pub zeros: u8,
     pub ones: u8,

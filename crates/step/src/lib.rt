@@ -1,5 +1,7 @@
 // The protocol's steps, each a function of numbers: counts, bytes and thresholds. Whoever runs stations, one or a whole line, calls these. Stations are counted
 // from 0 here.
+#![tactic(auto)]
+
 ghost use Rattle.std.specs.Prelude.{◌≡◌, ◌-◌, eqb};
 ghost use Rattle.line.specs.Count.{if◌then◌else◌};
 ghost use Rattle.line.specs.Ballot.{silence, bit_or};
@@ -13,7 +15,7 @@ use line::Line;
 use line::ballot::Ballot;
 
 // Which part of a broadcast a round is: the sender's, the first or the second round of an exchange, or the king's, with the king's number.
-#[derive(Drop)]
+#[derive(Clone, Copy)]
 pub enum Part {
     Sender,
     First,

@@ -1,4 +1,6 @@
 // One of the stored runs: a sheet is read and rehearsed, and the line of it printed to standard output. tests/runs.py says what the line has.
+#![tactic(auto)]
+
 ghost use Rattle.stored_run.specs.Promise.{Leaves};
 
 use layout::Header;

@@ -1,5 +1,7 @@
 // Run sheets read from standard input and rehearsed, a line of text for each, refusals included. Each is the sheet's length and the lent table's, two bytes
 // with the low byte first, then the sheet. tests/runs.py makes the sheets, and prints the same text by an implementation of its own.
+#![tactic(auto)]
+
 use libc::STDIN_FILENO;
 
 // A two-byte number.

@@ -1,5 +1,7 @@
 // Text put into a lent buffer, as far as the buffer goes. Each function puts its bytes from a place on and answers the place after them, also where that
 // is past the buffer's end, so that a text can be put piece by piece and its whole length is told.
+#![tactic(auto)]
+
 ghost use Rattle.std.specs.Prelude.{◌≡◌, [], ◌∷◌, ◌<◌};
 ghost use Rattle.text.specs.Decimal.{space, digit, numeral};
 ghost use Rattle.text.specs.Laid.{after, Puts};

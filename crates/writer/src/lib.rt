@@ -1,4 +1,6 @@
 // The writer of run sheets: a header of any bytes and run tables of any bytes, one for each bit, give a sheet in a lent buffer, or the one refusal.
+#![tactic(auto)]
+
 ghost use Rattle.std.specs.Prelude.{◌≡◌, length};
 ghost use Rattle.refusal.specs.declared.cause.Verdict.TheVariants.{Accepted};
 ghost use Rattle.writer.specs.declared.Need.TheVariants.{Bytes};
@@ -10,14 +12,14 @@ use refusal::cause::{Cause, Verdict};
 mod put;
 
 // How many bytes a sheet needs.
-#[derive(Drop)]
+#[derive(Clone, Copy)]
 pub enum Need {
     Bytes(usize),
     Refused(Cause),
 }
 
 // The answer to writing a sheet: written with so many records, or refused.
-#[derive(Drop)]
+#[derive(Clone, Copy)]
 pub enum Writing {
     Written(usize),
     Refused(Cause),

@@ -12,7 +12,7 @@ use layout::Header;
 use line::Line;
 
 // A round of a bit's broadcast: the bit from 0 on, the round from 1 on.
-#[derive(Drop)]
+#[derive(Clone, Copy)]
 struct Turn {
     bit: u8,
     round: u8,

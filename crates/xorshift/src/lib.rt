@@ -1,4 +1,6 @@
 // One step of the generator's state, 32 bits.
+#![tactic(auto)]
+
 ghost use Rattle.std.specs.Prelude.{◌≡◌};
 ghost use Rattle.xorshift.specs.State.{next};
 
