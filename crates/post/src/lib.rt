@@ -22,7 +22,7 @@ fn post_table(log: &mut [u8], table: &[u8], at: usize, n: usize)
     ensures { log.new ≡ over log.old at n (from_table table.now at) }
 {
     let end = at + n;
-    bytes::copy(&table[at..end], &mut log[at..end]);
+    log[at..end].copy_from_slice(&table[at..end]);
 }
 
 // Where the good stations end that say what station i says, one after the other from i on.

@@ -1,0 +1,17 @@
+-- `choose` meets its contract.
+use borrow.Author.Rules.{rules}
+use native.Mathlib.Omega.{arith}
+use Prim.Native.Nat.{◌≤◌, ◌-◌}
+use mathlib.Core.Path.{◌≡◌, refl}
+use lib.ListN.{length, get_or, length-set}
+use Rattle.line.specs.Writing.{Each}
+use Rattle.line.proofs.WritingLaws.{each_none, each_turn}
+use Rattle.broadcast.specs.Exchange.{z_from}
+use Rattle.all_stations.specs.Counts.{votes_for}
+use Rattle.all_stations.proofs.choose.Given as goal
+
+abbrev pub invariant-loop-j : goal.invariant-loop-j
+invariant-loop-j l = (l.j ≤ 32) × (length l.next ≡ 32) × Each l.j l.next (λ k. z_from l.line.n l.line.upper (get_or l.x k 0) (votes_for (get_or l.x k 0) (get_or l.equal k 0)))
+
+abbrev pub decreases-loop-j : goal.decreases-loop-j
+decreases-loop-j l = 32 - l.j

@@ -1,0 +1,8 @@
+-- `width` meets its contract.
+use borrow.Author.Rules.{rules}
+use Rattle.header.specs.Header.{width}
+use Rattle.header.proofs.width.Goals as goal
+
+pub returns : goal.returns
+unfolding width
+returns c = c.refused_if.ensures.answer_is

@@ -1,0 +1,7 @@
+-- `field` meets its contract.
+use borrow.Author.Rules.{rules}
+use Rattle.text.proofs.LaidLaws.{puts_then}
+use Rattle.text.proofs.field.Goals as goal
+
+pub returns : goal.returns
+returns c = puts_then c.byte-a.ensures c.number.ensures
