@@ -4,7 +4,7 @@
 ghost use Rattle.std.specs.Prelude.{◌≡◌, not, ◌&&◌, ◌≤◌, ltb, length};
 ghost use Rattle.line.specs.Line.{exchange_length, outcomes_length};
 ghost use Rattle.line.specs.Writing.{Each};
-ghost use Rattle.refusal.specs.Cause.{◌or-else◌};
+ghost use Rattle.refusal.specs.Cause.{◌or_else◌};
 ghost use Rattle.header.specs.Header.{exact_length};
 ghost use Rattle.broadcast.specs.Bytes.{exchange_outcomes};
 ghost use Rattle.broadcast.specs.Station.{at};

@@ -1,6 +1,6 @@
 // The causes of refusal, each with its number in documents 01 and 02.
 ghost use Rattle.std.specs.Prelude.{◌≡◌};
-ghost use Rattle.refusal.specs.Cause.{number, code, Judged, refused_if, ◌or-else◌, answer_word};
+ghost use Rattle.refusal.specs.Cause.{number, code, Judged, refused_if, ◌or_else◌, answer_word};
 
 #[derive(Clone, Copy)]
 pub enum Cause {

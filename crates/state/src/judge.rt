@@ -1,7 +1,7 @@
 // What a station's calls refuse: causes 2, 3, 4, 5, 7 and 8, the lowest first.
 ghost use Rattle.std.specs.Prelude.{◌≡◌, ◌+◌};
 ghost use Rattle.line.specs.Line.{rounds};
-ghost use Rattle.refusal.specs.Cause.{Judged, ◌or-else◌};
+ghost use Rattle.refusal.specs.Cause.{Judged, ◌or_else◌};
 ghost use Rattle.header.specs.Header.{line_verdict, station_number};
 ghost use Rattle.state.specs.Judgement.{foreign_state, is_done, state_verdict, station_verdict, telling_verdict, taking_verdict, opening_verdict};
 

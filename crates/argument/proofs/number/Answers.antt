@@ -17,17 +17,17 @@ loop-i-init c = let l = c.args.bytes.now in (omega arith, rw (read_none l), digi
 
 pub returns-then-not-is_digit : goal.returns-then-not-is_digit
 returns-then-not-is_digit c =
-    sym (other_byte c.args.bytes.now c.loop-i.i c.loop-i-test.true (sym c.is_digit.ensures ∙ not-true _ c.if-not-is_digit.true))
+    sym (other_byte c.args.bytes.now c.loop-i.i c.loop-i-test.true (sym c.is_digit.ensures ∙ c.if-not-is_digit.true))
 
 pub with_digit-x-requires : goal.with_digit-x-requires
-with_digit-x-requires c = digit_low _ (sym c.is_digit.ensures ∙ not-false _ c.if-not-is_digit.false)
+with_digit-x-requires c = digit_low _ (sym c.is_digit.ensures ∙ c.if-not-is_digit.false)
 
 pub loop-i-preserved : goal.loop-i-preserved
 loop-i-preserved c =
     let l = c.args.bytes.now in (
       omega arith,
       c.with_digit-x.ensures ∙ read_turn l c.loop-i.i c.loop-i.x c.loop-i.invariant.1,
-      digits_turn l c.loop-i.i c.loop-i.invariant.2 (sym c.is_digit.ensures ∙ not-false _ c.if-not-is_digit.false),
+      digits_turn l c.loop-i.i c.loop-i.invariant.2 (sym c.is_digit.ensures ∙ c.if-not-is_digit.false),
     )
 
 pub returns-then-i-eq0 : goal.returns-then-i-eq0

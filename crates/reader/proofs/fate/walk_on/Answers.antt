@@ -18,7 +18,7 @@ pub returns-then-not-is_record : goal.returns-then-not-is_record
 returns-then-not-is_record c =
     let inv = c.loop-m.invariant in
     rw (c.told.ensures, inv.0)
-    (hit_told _ _ _ _ inv.1 (inl (false_over _ _ (sym c.is_record.ensures ∙ not-true _ c.if-not-is_record.true))))
+    (hit_told _ _ _ _ inv.1 (inl (false_over _ _ (sym c.is_record.ensures ∙ c.if-not-is_record.true))))
 
 pub overflow_add-m : goal.overflow_add-m
 overflow_add-m c = omega arith
@@ -30,7 +30,7 @@ pub loop-m-preserved : goal.loop-m-preserved
 loop-m-preserved c =
     let s = c.args.sheet.now in
     let inv = c.loop-m.invariant in
-    let here = true_record s c.loop-m.i (sym c.is_record.ensures ∙ not-false _ c.if-not-is_record.false) in
+    let here = true_record s c.loop-m.i (sym c.is_record.ensures ∙ c.if-not-is_record.false) in
     let room : c.loop-m.m < records s = omega (arith, inv.0, c.loop-m-test) in
     (inv.0, hit_turn s _ _ _ inv.1 here room _ c.record_at-record.ensures)
 

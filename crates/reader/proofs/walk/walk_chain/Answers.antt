@@ -23,7 +23,7 @@ pub returns-then-not-is_record : goal.returns-then-not-is_record
 returns-then-not-is_record c =
     let p = c.requires in
     let inv = c.loop-m.invariant in
-    let over = false_over c.args.sheet.now c.loop-m.i (sym c.is_record.ensures ∙ not-true _ c.if-not-is_record.true) in
+    let over = false_over c.args.sheet.now c.loop-m.i (sym c.is_record.ensures ∙ c.if-not-is_record.true) in
     rw (c.told.ensures, inv.0) (going_told _ _ _ _ _ _ inv.1.1 (rw (← inv.0) inv.1.0) p.0.most (inl over))
 
 pub judge-verdict-requires : goal.judge-verdict-requires
@@ -48,7 +48,7 @@ walk_on-requires c =
     let s = c.args.sheet.now in
     let p = c.requires in
     let inv = c.loop-m.invariant in
-    let here = true_record s c.loop-m.i (sym c.is_record.ensures ∙ not-false _ c.if-not-is_record.false) in
+    let here = true_record s c.loop-m.i (sym c.is_record.ensures ∙ c.if-not-is_record.false) in
     let room : c.loop-m.m < records s = omega (arith, inv.0, c.loop-m-test) in
     going_hit s _ _ _ _ p.0 _ _ _ _ _ inv.1.1 here room _ c.record_at-record.ensures _ _ _ _ c.judge-verdict.ensures _ c.in-Refused.is
 
@@ -66,7 +66,7 @@ loop-m-preserved c =
     let s = c.args.sheet.now in
     let p = c.requires in
     let inv = c.loop-m.invariant in
-    let here = true_record s c.loop-m.i (sym c.is_record.ensures ∙ not-false _ c.if-not-is_record.false) in
+    let here = true_record s c.loop-m.i (sym c.is_record.ensures ∙ c.if-not-is_record.false) in
     let room : c.loop-m.m < records s = omega (arith, inv.0, c.loop-m-test) in
     (inv.0, (omega arith, going_turn s _ _ _ _ p.0 _ _ _ _ _ inv.1.1 here room _ c.record_at-record.ensures _ _ _ _ c.judge-verdict.ensures c.in_default.is))
 

@@ -1,0 +1,11 @@
+-- `judge` meets its contract.
+use borrow.Author.Rules.{rules}
+use Rattle.checker.specs.Promise.{check_verdict}
+use Rattle.checker.proofs.judge.Goals as goal
+
+pub returns : goal.returns
+unfolding check_verdict
+returns c =
+    rw (c.or_else-3.ensures.answer_is, c.or_else-2.ensures.answer_is, c.or_else.ensures.answer_is)
+    (rw (c.exact_length-d.ensures.answer_is, c.exact_length-c.ensures.answer_is, c.station_number-b.ensures.answer_is)
+    (rw (c.outcomes_len.ensures, c.table_len.ensures, c.line_verdict-a.ensures.answer_is)))

@@ -1,0 +1,14 @@
+-- `list_whole` meets its contract, by what the reader answers.
+use Rattle.listing.proofs.BitLaws.{begun}
+use Rattle.listing.proofs.ListingLaws.{whole_accepted, whole_refused}
+use borrow.Author.Rules.{rules}
+use Rattle.listing.proofs.list_whole.Goals as goal
+
+pub list_run-requires : goal.list_run-requires
+list_run-requires c = begun _ _ _ c.read_bit-reading.ensures _ c.in-Accepted.is _ c.requires
+
+pub returns-in-Accepted : goal.returns-in-Accepted
+returns-in-Accepted c = whole_accepted _ _ _ c.read_bit-reading.ensures _ c.in-Accepted.is _ _ _ _ _ _ c.list_run.ensures
+
+pub returns-in-Refused : goal.returns-in-Refused
+returns-in-Refused c = whole_refused _ _ _ c.read_bit-reading.ensures _ _ c.in-Refused.is c.number.ensures _ _ _ _ c.of_refusal.ensures

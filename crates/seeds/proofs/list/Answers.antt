@@ -1,0 +1,18 @@
+-- `list` meets its contract, by what the reader answers.
+use borrow.Author.Rules.{rules}
+use native.Mathlib.Omega.{arith}
+use Rattle.listing_lines.proofs.OutputLaws.{refused_output}
+use Rattle.seeds.proofs.OutputLaws.{begun, accepted_output, refused}
+use Rattle.seeds.proofs.list.Goals as goal
+
+pub list_header-requires : goal.list_header-requires
+list_header-requires c =
+    begun _ _ _ c.read_bit-reading.ensures c.requires.0 _ c.in-Accepted.is _ c.requires.1 c.read_bit-reading.auto.1.1.0
+
+pub returns-in-Accepted : goal.returns-in-Accepted
+returns-in-Accepted c =
+    accepted_output _ _ _ c.read_bit-reading.ensures c.requires.0 _ c.in-Accepted.is _ _ _ c.requires.2 c.list_header.ensures
+
+pub returns-in-Refused : goal.returns-in-Refused
+returns-in-Refused c =
+    refused_output _ _ _ _ _ _ _ _ (refused _ _ _ c.read_bit-reading.ensures c.requires.0 _ c.in-Refused.is) c.number.ensures (omega (arith, c.requires.2)) c.of_refusal.ensures
