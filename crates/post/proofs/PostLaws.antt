@@ -21,23 +21,14 @@ use Rattle.post.specs.Posted.{ballot_at, posted, same, from_table, Alike}
 -- ---- a part of the table copied to the log, as the code lends both
 
 pub over_copied : (l table part : List ℕ) (a k n : ℕ) → k ≡ n → a + n ≤ length l → a + n ≤ length table
-    → (let row = take k (drop a table) in part ≡ take (length row) row ++ drop (length row) (take k (drop a l)))
-    → spliced l part a k ≡ over l a n (from_table table a)
+    → part ≡ take k (drop a table) → spliced l part a k ≡ over l a n (from_table table a)
 unfolding from_table
 over_copied l table part a k n e room there q =
-    let row = take n (drop a table) in
-    let long : length row ≡ n = length-take-le n (drop a table) (rw (length-drop a table) (omega arith)) in
-    let here : length (take n (drop a l)) ≡ n = length-take-le n (drop a l) (rw (length-drop a l) (omega arith)) in
-    let same : part ≡ take n row ++ drop n (take n (drop a l)) = q ∙ rw (e, long) refl in
-    let size : length part ≡ n = ap length same ∙ simp (length-append, length-drop, here, length-take-le n row (omega (arith, long))) (omega arith) in
+    let same : part ≡ take n (drop a table) = rw e at q in
+    let size : length part ≡ n = rw same (length-take-le n (drop a table) (rw (length-drop a table) (omega arith))) in
     rw e
     (over_part l part a n room size _
-    (λ j h.
-    rw same
-    (get_or-append (take n row) _ 0 j (rw (length-take-le n row (omega (arith, long))) h)
-    ∙ get_or-take n row j 0 h
-    ∙ get_or-take n (drop a table) j 0 h
-    ∙ get_or-drop a table j 0)))
+    (λ j h. rw same (get_or-take n (drop a table) j 0 h ∙ get_or-drop a table j 0)))
 
 -- ---- good stations that say the same
 
