@@ -12,23 +12,6 @@ use Prim.Native.Nat.{◌+◌, ◌*◌, ◌-◌, ◌≤◌, ◌<◌}
 use mathlib.Core.Path.{◌≡◌, sym, ◌∙◌}
 use Rattle.recipe.proofs.run.Goals as goal
 
-part-bit-end : tie.Need-slice-bounds-bit-end invariant-loop decreases-loop
-part-bit-end c =
-    let s = c.before.before.before.before.before.before.before in
-    let b : c.before.loop.b < bits s.args.w = omega (arith, c.loop-test.true, c.before.before.bits.ensures) in
-    let e : c.before.before.before.table-len.result ≡ table_length s.args.line.n s.args.line.t = c.before.before.before.table-len.ensures in
-    let from = rw e at c.before.loop.invariant.1 in
-    omega (arith, from, part_ends _ _ _ s.requires c.before.loop.b b, s.requires.tables_whole, e)
-
-part-bit-end-2 : tie.Need-slice-bounds-bit-end-2 invariant-loop decreases-loop
-part-bit-end-2 c =
-    let s = c.before.before.before.before.before.before.before.before in
-    let l = c.before.before.loop in
-    let b : l.b < bits s.args.w = omega (arith, c.before.loop-test.true, c.before.before.before.bits.ensures) in
-    let e : c.before.before.before.before.table-len.result ≡ table_length s.args.line.n s.args.line.t = c.before.before.before.before.table-len.ensures in
-    let from = rw e at l.invariant.1 in
-    omega (arith, from, part_ends _ _ _ s.requires l.b b, l.invariant.2.logs_whole, e)
-
 pub loop-b-init : goal.loop-b-init
 loop-b-init c =
     (omega arith, omega (arith, zero-mul c.table_len-size.result), none_played _ _ _ c.requires)
@@ -39,6 +22,20 @@ overflow_add-end c =
     let e : c.table_len-size.result ≡ table_length c.args.line.n c.args.line.t = c.table_len-size.ensures in
     let from = rw e at c.loop-b.invariant.1 in
     record { fits = omega (arith, from, part_ends _ _ _ c.requires c.loop-b.b b, tables_small _ _ _ c.requires, e) }
+
+pub slice_bounds-bit-end : goal.slice_bounds-bit-end
+slice_bounds-bit-end c =
+    let b : c.loop-b.b < bits c.args.w = omega (arith, c.loop-b-test.true, c.bits-bits.ensures) in
+    let e : c.table_len-size.result ≡ table_length c.args.line.n c.args.line.t = c.table_len-size.ensures in
+    let from = rw e at c.loop-b.invariant.1 in
+    omega (arith, from, part_ends _ _ _ c.requires c.loop-b.b b, c.requires.tables_whole, e)
+
+pub slice_bounds-bit-end-in-loop-b : goal.slice_bounds-bit-end-in-loop-b
+slice_bounds-bit-end-in-loop-b c =
+    let b : c.loop-b.b < bits c.args.w = omega (arith, c.loop-b-test.true, c.bits-bits.ensures) in
+    let e : c.table_len-size.result ≡ table_length c.args.line.n c.args.line.t = c.table_len-size.ensures in
+    let from = rw e at c.loop-b.invariant.1 in
+    omega (arith, from, part_ends _ _ _ c.requires c.loop-b.b b, c.loop-b.invariant.2.logs_whole, e)
 
 pub overflow_add-b : goal.overflow_add-b
 overflow_add-b c =

@@ -7,9 +7,9 @@ use Rattle.recipe.proofs.gather.add_station.Goals as goal
 
 pub returns-then-grade : goal.returns-then-grade
 returns-then-grade c =
-    station_left _ _ _ _ c.if-grade.taken (omega (arith, c.UNRESOLVED.pre.0.size, c.UNRESOLVED.pre.1))
+    station_left _ _ _ _ c.if-grade.true (omega (arith, c.requires.0.size, c.requires.1))
 
 pub returns : goal.returns
 returns c =
     c.put.ensures
-    ∙ rw (c.with_bit-value.ensures, c.smaller-least.ensures, c.either-flag.ensures, c.larger-most.ensures) (station_joined _ _ _ _ c.if-grade.left)
+    ∙ rw (c.with_bit-value.ensures, c.smaller-least.ensures, c.either-flag.ensures, c.larger-most.ensures) (station_joined _ _ _ _ c.if-grade.false)
