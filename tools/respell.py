@@ -13,6 +13,7 @@ import sys
 CRATES = "crates"
 TOKEN = re.compile(r"[^\W\d][\w']*(?:-[\w']+)+")
 DECLARED = re.compile(r"(?m)^[ \t]*(?:pub |abbrev |unfoldable |record |data )*([^\W\d][\w']*(?:-[\w']+)+)(?: [^:\n]*)? ?:")
+INFIX = re.compile(r"\u25cc([^\W\d][\w']*(?:-[\w']+)+)\u25cc")
 USED = re.compile(r"(?m)^[ \t]*(?:ghost )?use ([\w.\u00b7+-]+?)\.\{([^}]*)\}")
 KIND = re.compile(r"(?m)^[ \t]*(?:pub |abbrev |unfoldable )*(record |data )?%s(?: [^:\n]*)? ?:([^\n]*)")
 # words of Rattle's own in proof files, which no file imports
@@ -83,6 +84,7 @@ def table():
             continue
         texts.append(t)
         declared.update(DECLARED.findall(t))
+        declared.update(INFIX.findall(t))
         kit = of_kit(t, crates)
         for m in TOKEN.finditer(t):
             if m.group() not in kit:
