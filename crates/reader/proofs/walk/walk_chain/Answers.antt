@@ -55,8 +55,7 @@ walk_on-requires c =
 pub returns-in-Refused : goal.returns-in-Refused
 returns-in-Refused c =
     let s = c.args.sheet.now in
-    let kept = c.judge-verdict.new.1.1.1.1.1.1.1 in
-    fated_told s kept.0 kept.1.0 c.walk_on.result c.walk_on.ensures
+    fated_told s c.judge-verdict.new.places c.judge-verdict.new.ballots c.walk_on.result c.walk_on.ensures
 
 pub loop-m-smaller : goal.loop-m-smaller
 loop-m-smaller c = omega arith
