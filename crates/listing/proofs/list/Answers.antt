@@ -23,4 +23,4 @@ returns c =
     let a = c.shorter-a.ensures in
     let b = c.shorter-b.ensures in
     let w = c.table_len-len.ensures in
-    lists_parts _ _ _ _ _ _ _ _ _ _ (le_trans b.1 a.2) b.2 (rw (← w) a.0) b.0 c.list_whole.auto.1.0 c.list_whole.auto.1.1.0 c.list_whole.ensures
+    lists_parts _ _ _ _ _ _ _ _ _ _ (le_trans b.1 a.2) b.2 (rw (← w) a.0) b.0 c.list_whole.auto.table c.list_whole.auto.log c.list_whole.ensures

@@ -7,7 +7,7 @@ use Rattle.seeds.proofs.list.Goals as goal
 
 pub list_header-requires : goal.list_header-requires
 list_header-requires c =
-    begun _ _ _ c.read_bit-reading.ensures c.requires.0 _ c.in-Accepted.is _ c.requires.1 c.read_bit-reading.auto.1.1.0
+    begun _ _ _ c.read_bit-reading.ensures c.requires.0 _ c.in-Accepted.is _ c.requires.1 c.read_bit-reading.auto.table
 
 pub returns-in-Accepted : goal.returns-in-Accepted
 returns-in-Accepted c =

@@ -68,7 +68,7 @@ loop-done-preserved c =
     let r = round_left a.h a.table.now l.passed l.at l.done l.invariant.0 l.invariant.1 l.invariant.3 (omega (arith, c.requires.all)) in (
       omega (arith, r),
       omega (arith, next_round a.h.n l.passed, l.invariant.1),
-      p.auto.1.1.0 ∙ l.invariant.2,
+      p.auto.sheet ∙ l.invariant.2,
       p.ensures.0,
       λ z q. p.ensures.1 z (l.invariant.4 z q),
     )

@@ -54,7 +54,7 @@ loop-i-preserved c =
     let f = leaps_first c.args.h.marks c.args.h.n _ c.requires.2 c.requires.0.few (l.i + 1) (omega arith) in (
       f.high,
       f.there,
-      p.auto.1.1.0 ∙ l.invariant.2,
+      p.auto.sheet ∙ l.invariant.2,
       leapt_on a.h a.table.now a.turn a.at c.requires.1 l.i _ _ f p.ensures.0,
       λ z q. p.ensures.1 z (l.invariant.4 z q),
     )

@@ -44,7 +44,7 @@ loop-j-preserved c =
     let counted = byte_counted a.h a.table.now a.k a.turn a.from a.at c.requires.1 c.requires.2 l.j (omega arith) in
     let on = byte_goes_on a.h a.table.now a.k a.turn a.from a.at c.requires.1 c.requires.2 l.j (omega arith) l.sheet l.done l.invariant.2 in (
       omega arith,
-      p.auto.0 ∙ l.invariant.1,
+      p.auto.sheet ∙ l.invariant.1,
       p.ensures.0 ∙ rw (counted, l.invariant.2),
       λ z e. rw (p.ensures.0, p.ensures.1) (on z (l.invariant.3 z e)),
     )

@@ -15,7 +15,7 @@ returns-then-k-eq0 c =
 pub put_records-requires : goal.put_records-requires
 put_records-requires c =
     let p = c.put_header in
-    rw c.header_of-h.ensures (ready_on _ _ _ _ _ _ _ _ _ c.requires.ready p.auto.1.0 c.requires.ready.before)
+    rw c.header_of-h.ensures (ready_on _ _ _ _ _ _ _ _ _ c.requires.ready p.auto.sheet c.requires.ready.before)
 
 pub returns : goal.returns
 returns c =
