@@ -18,8 +18,8 @@ DOCUMENTS = [
     "README.md", "docs/PROMISES.md", "docs/AUDIT.md", "docs/DECISIONS.md", "controller/README.md", "peer/README.md", "vectors/README.md",
     *sorted(str(page.relative_to(TOP)) for page in TOP.glob("docs/changes/*.md")),
 ]
-WORD = re.compile(r"[\w\-′]+")
-NAME = re.compile(r"[A-Za-z_][\w\-′]*(::[A-Za-z_]\w*)*\Z")
+WORD = re.compile(r"[\w\-◌']+")
+NAME = re.compile(r"[A-Za-z_◌][\w\-◌']*(::[A-Za-z_]\w*)*\Z")
 PATH = re.compile(r"[\w.*\-]*/[\w./*\-]+\Z")
 EDIT = re.compile(r"`(\w+)`(\*?)")
 
@@ -94,6 +94,8 @@ def listed():
             areas[line[2:]] = []
         elif line:
             name, names = line.split(":")
+            # a static library has that word after its name
+            name = name.split()[0]
             areas[list(areas)[-1]].append(name)
             uses[name] = names.split()
     return areas, uses
@@ -108,9 +110,9 @@ def direct(names, uses):
 
 def named(crate, other):
     """Whether a crate's code, definitions or proofs name another crate."""
-    files = [*(TOP / "crates" / crate / "src").rglob("*.rt"), *(TOP / "crates" / crate).glob("**/*.antt")]
+    files = [file for part in ("src", "specs", "proofs") for file in (TOP / "crates" / crate / part).rglob("*") if file.suffix in (".rt", ".antt")]
     text = "\n".join(re.sub(r"(^|\s)(--|//).*", "", file.read_text(encoding="utf-8")) for file in files)
-    return re.search(rf"Rattle·{other}[.·]|(?<!\w){other}::", text)
+    return re.search(rf"(?<!\w)Rattle\.{other}\.|(?<!\w){other}::", text)
 
 
 def crates():
