@@ -3,8 +3,8 @@
 
 Every path and every definition, statement, function or file that a document sets in backticks is there, and those that
 docs/AUDIT.md lays beside the papers stand in the file that it names; every wrong program that it names is there, and
-every one that is there is named, and so is every public call. README.md's picture of the crates is that of crates.txt, which lists what each names and
-no more. Prints what fails, then 'N passed, M failed'.
+every one that is there is named, and so is every public call. Those that the gate doesn't try fit the text that they change. README.md's picture of the crates is that
+of crates.txt, which lists what each names and no more. Prints what fails, then 'N passed, M failed'.
 """
 import pathlib
 import re
@@ -78,6 +78,27 @@ def edits():
         yield f"wrong program {name}: in docs/AUDIT.md and in {where}", (name, star) in told and (name, star) in there
 
 
+def fits(edit):
+    """Whether what an edit replaces stands in its file, once."""
+    text = ""
+    for line in edit.read_text(encoding="utf-8").splitlines():
+        if line.startswith("file: "):
+            text = (TOP / "crates" / edit.parent.name / line[6:]).read_text(encoding="utf-8")
+        elif line.startswith("old: "):
+            old = line[5:]
+            if text.count(old) != 1:
+                return False
+        elif line.startswith("new: "):
+            text = text.replace(old, line[5:])
+    return text != ""
+
+
+def untried():
+    """The wrong programs of tests/wrong beside the crates."""
+    for edit in sorted(TOP.glob("tests/wrong/*/*.edit")):
+        yield f"{edit.relative_to(TOP)} fits crate {edit.parent.name}", fits(edit)
+
+
 def calls():
     """Every public function of a crate, and whether docs/AUDIT.md names it."""
     text = (TOP / "docs/AUDIT.md").read_text(encoding="utf-8")
@@ -137,4 +158,4 @@ def crates():
 
 
 if __name__ == "__main__":
-    sys.exit(not closing([*names(words()), *definitions(), *edits(), *calls(), *crates()]))
+    sys.exit(not closing([*names(words()), *definitions(), *edits(), *untried(), *calls(), *crates()]))
