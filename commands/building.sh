@@ -58,7 +58,8 @@ begin() {
 below() {
     awk -v wanted="$1" '
         { sub(/#.*/, "") }
-        /:/ { split($0, part, ":"); gsub(/[ \t]/, "", part[1]); needs[part[1]] = part[2] }
+        # a name, with a word behind it where it is a static library
+        /:/ { split($0, part, ":"); split(part[1], word, " "); needs[word[1]] = part[2] }
         function visit(crate,    each, count, k) {
             if (!(crate in needs) || crate in seen) return
             seen[crate] = 1
@@ -82,11 +83,11 @@ alone() {
     wipe
 }
 
-# produce STEPS FILE TOOL WORD..: has the tool make the file, and says how many of so many crates it has proved; what the tool prints is kept in a log
+# produce STEPS FILE TOOL WORD..: makes the file by these words, which need the tool, and says how many of so many crates are proved; what is printed is kept in a log
 produce() {
-    local steps=$1 file=$2 path=${2#"$top"/} log=$logs/${2##*/}.log began=$SECONDS why status
-    shift 2
-    command -v "$1" >/dev/null || trouble "$path can't be built: $1 is not on the PATH (README.md, \"What it needs\")"
+    local steps=$1 file=$2 tool=$3 path=${2#"$top"/} log=$logs/${2##*/}.log began=$SECONDS why status
+    shift 3
+    command -v "$tool" >/dev/null || trouble "$path can't be built: $tool is not on the PATH (README.md, \"What it needs\")"
     [ -e "$file" ] && why="is older than its sources" || why="isn't built yet"
     say "$path $why: building, $([ "$steps" -eq 0 ] && echo seconds || echo "some minutes from nothing")"
     : >"$log" || trouble "$log can't be written"
@@ -106,13 +107,13 @@ produce() {
     group=''
     [ "$status" -eq 0 ] && [ -e "$file" ] || trouble "$path can't be built; $log says why"
     touch -r "$work/began" "$file"
-    say "built in $((SECONDS - began)) s$([ "$1" != rt ] || echo ": $(sum_of "$file")")"
+    say "built in $((SECONDS - began)) s$([ "$tool" != rt ] || echo ": $(sum_of "$file")")"
 }
 
 # steps_done STEPS LOG: how far it is
 steps_done() {
     if [ "$1" -gt 0 ]; then
-        echo "$(grep -cE '^rt: [a-z_]+ proved' "$2") of $1 crates proved"
+        echo "$(grep -c '^logic=proved ' "$2") of $1 crates proved"
     else
         echo building
     fi
@@ -121,7 +122,7 @@ steps_done() {
 # sum_of FILE: its SHA-256 and its path from the repository's top, as sha256sum prints them
 sum_of() { (cd "$top" && sha256sum "${1#"$top"/}"); }
 
-# build FILE SOURCE.. -- STEPS TOOL WORD..: makes the file with the tool where it isn't there, or where one of the sources is newer
+# build FILE SOURCE.. -- STEPS TOOL WORD..: makes the file by these words, which need the tool, where it isn't there, or where one of the sources is newer
 build() {
     local file=$1 sources=()
     shift
@@ -136,15 +137,19 @@ build() {
     [ -z "${lock-}" ] || exec {lock}>&-
 }
 
-# build_crate FILE CRATE RT-WORD: a crate's program or library, by rt
+# build_crate FILE CRATE: a crate's program or static library, by rt
 build_crate() {
-    local crates
+    local crates crate part sources=()
     mapfile -t crates < <(below "$2")
-    build "$1" "$top/crates.txt" "${crates[@]/#/$top/crates/}" -- "${#crates[@]}" rt "$3" "$2"
+    # beside these a crate's folder has what rt makes
+    for crate in "${crates[@]}"; do
+        for part in src specs proofs; do [ ! -d "$top/crates/$crate/$part" ] || sources+=("$top/crates/$crate/$part"); done
+    done
+    build "$1" "$top/crates.txt" "${sources[@]}" -- "${#crates[@]}" rt "$top/commands/by_rt" "$2" "$1"
 }
 
 # build_peer: the second implementation, by cargo
 build_peer() {
     build "$peer" "$top/peer/Cargo.toml" "$top/peer/Cargo.lock" "$top/peer/build.rs" "$top/peer/src" -- \
-        0 cargo build --release --quiet --offline --locked --manifest-path peer/Cargo.toml
+        0 cargo cargo build --release --quiet --offline --locked --manifest-path peer/Cargo.toml
 }

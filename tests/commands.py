@@ -406,20 +406,23 @@ def audit_uses():
 
 # it goes on after each crate when that is seen to be told, and in the end when it is let go, so that no trial depends on how fast the machine is
 RT = """#!/bin/sh
-echo "$@" >>"$RT_CALLS"
+crate=${PWD##*/}
+echo "$1 $crate" >>"$RT_CALLS"
 until_there() { n=0; until [ -e "$RT_CALLS.$1" ] || [ $n -gt 600 ]; do sleep 0.1; n=$((n + 1)); done; }
 case $RT_DOES in
-fails) echo "rt: station NOT PROVED (exit 1, 3 s)"; exit 1 ;;
+fails) echo "fn station::open: not proved"; exit 1 ;;
 waits) sh -c 'echo $$ >>"$RT_CALLS.pids"; exec sleep 600' & echo $$ >>"$RT_CALLS.pids"; wait ;;
 holds) until_there go ;;
 esac
 k=0
-for crate in line broadcast sheet; do
+for lower in line broadcast layout; do
     k=$((k + 1))
-    echo "rt: $crate proved (1 s)"
+    echo "rt: chose --jobs 2 for $lower"
+    echo "logic=proved functions=$k"
     [ "$RT_DOES" != told ] || until_there $k
 done
-mkdir -p target/bin && printf '%s\\n' '#!/bin/sh' "cat >/dev/null; echo $2 built" >"target/bin/$2" && chmod +x "target/bin/$2"
+mkdir -p out && printf '%s\\n' '#!/bin/sh' "cat >/dev/null; echo $crate built" >"out/$crate" && chmod +x "out/$crate"
+exit $k
 """
 
 
@@ -431,7 +434,7 @@ class Copy:
         self.top.mkdir(parents=True)
         tools.mkdir()
         for part in "commands", "crates":
-            shutil.copytree(TOP / part, self.top / part)
+            shutil.copytree(TOP / part, self.top / part, ignore=shutil.ignore_patterns("out"))
         for part in *PROGRAMS, "crates.txt":
             shutil.copy(TOP / part, self.top / part)
         (tools / "rt").write_text(RT)
@@ -489,7 +492,7 @@ class Copy:
 def reached(crate):
     """The crate and those of the repository that it needs."""
     rows = [row.split(":") for row in (TOP / "crates.txt").read_text().splitlines() if row and not row.startswith("#")]
-    needs = {name: words.split() for name, words in rows}
+    needs = {name.split()[0]: words.split() for name, words in rows}
     found, ahead = set(), [crate]
     while ahead:
         name = ahead.pop()
@@ -507,16 +510,16 @@ def building(folder):
     yield "the first use builds the program, and says how far it is", status == 0 and copy.made() == b"agree built\n" and all(step in said for step in steps)
     yield "and what it has built", re.search(r"agree: built in \d+ s: [0-9a-f]{64}  target/bin/agree\n$", said)
     copy.env["RT_DOES"] = ""
-    yield "the second doesn't", copy.agree().gives(0, b"agree built\n") and copy.called() == ["check agree"]
+    yield "the second doesn't", copy.agree().gives(0, b"agree built\n") and copy.called() == ["run agree"]
     os.utime(copy.top / "crates" / "stored_runs" / "stdin")
-    yield "nor where a crate has changed that it doesn't use", copy.agree().gives(0, b"agree built\n") and copy.called() == ["check agree"]
+    yield "nor where a crate has changed that it doesn't use", copy.agree().gives(0, b"agree built\n") and copy.called() == ["run agree"]
     os.utime(copy.top / "crates" / "line" / "src" / "lib.rt")
     again = copy.agree()
     yield "a program older than its crates is built again", again.out == b"agree built\n" and "is older than its sources: " in again.said and len(copy.called()) == 2
     (copy.top / "crates" / "layout" / "specs" / "Chain.antt").unlink()
     yield "also where a file is gone", copy.agree().out == b"agree built\n" and len(copy.called()) == 3
     made = {"rewrite": copy.rewrite(), "audit": copy.audit(), "seeds": copy.seeds()}
-    yield "each program is built by its own command", copy.called()[3:] == ["check rewrite", "check audit", "check seeds"]
+    yield "each program is built by its own command", copy.called()[3:] == ["run rewrite", "run audit", "run seeds"]
     for name, one in made.items():
         told = one.said.startswith(f"{name}: target/bin/{name} isn't built yet: building, ")
         yield f"{name}: told by its own name", told and (one.status, one.out) == (0, f"{name} built\n".encode())
@@ -530,9 +533,13 @@ def building(folder):
 
 def failing(folder):
     copy = Copy(folder / "fails", "fails")
+    # what an earlier build left
+    left = copy.top / "crates" / "agree" / "out" / "agree"
+    left.parent.mkdir()
+    left.write_text("#!/bin/sh\necho an earlier one\n")
     log = copy.top / "target" / "commands" / "agree.log"
     said = re.escape(f"agree: target/bin/agree can't be built; {log} says why\n")
-    yield "a build that fails", copy.agree().gives(2, b"", f"agree: target.*: building, .*\n(agree: 0 of .*\n)?{said}") and "station NOT PROVED" in log.read_text()
+    yield "a build that fails", copy.agree().gives(2, b"", f"agree: target.*: building, .*\n(agree: 0 of .*\n)?{said}") and "station::open: not proved" in log.read_text()
     (folder / "fails" / "tools" / "rt").unlink()
     copy.env["PATH"] = without_rt(folder)
     yield "no rt", copy.agree().gives(2, b"", 'agree: target/bin/agree can\'t be built: rt is not on the PATH \\(README.md, "What it needs"\\)\n')
@@ -591,7 +598,7 @@ def at_once(folder):
     waiting = until(lambda: any("agree: waiting for another command that builds\n" in one.read_text() for one in said))
     copy.let("go")
     ended = [one.wait(timeout=HANGS) for one in both]
-    yield "two first uses at once build once", waiting and ended == [0, 0] and copy.called() == ["check agree"]
+    yield "two first uses at once build once", waiting and ended == [0, 0] and copy.called() == ["run agree"]
 
 
 # ---- which program it is
@@ -602,7 +609,8 @@ def section(name, library="controller"):
     with tempfile.TemporaryDirectory() as folder:
         archive, file = TOP / "target" / "staticlib" / f"lib{library}.a", pathlib.Path(folder) / "section"
         subprocess.run(["ar", "x", archive], cwd=folder, check=True)
-        subprocess.run(["objcopy", "-O", "binary", f"--only-section={name}", "--set-section-flags", f"{name}=alloc", f"{library}.o", file], cwd=folder, check=True)
+        member, = pathlib.Path(folder).glob("*.o")
+        subprocess.run(["objcopy", "-O", "binary", f"--only-section={name}", "--set-section-flags", f"{name}=alloc", member, file], cwd=folder, check=True)
         return file.read_bytes()
 
 

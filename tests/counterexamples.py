@@ -75,15 +75,15 @@ def broken_guarantee(run, outcomes, bits=1):
     decided = {outcomes[i][0] for i in run.good}
     flags = [outcomes[i][2] for i in run.good]
     if not decided <= set(range(2 ** bits)) or not set(flags) <= {0, 1}:
-        return "Demand-3, range"
+        return "Demand3, range"
     if run.f <= run.t and len(decided) > 1:
-        return "Demand-3, agreement"
+        return "Demand3, agreement"
     if run.f <= run.t and any(flags):
-        return "Demand-3, no-flag"
+        return "Demand3, no_flag"
     if run.f <= run.T and not run.bad[run.sender] and decided - {run.value}:
-        return "Demand-3, extended-validity"
+        return "Demand3, extended_validity"
     if run.f <= run.T and len(decided) > 1 and not all(flags):
-        return "Demand-3, consistency-detection"
+        return "Demand3, consistency_detection"
     return None
 
 
@@ -106,17 +106,17 @@ def broken_exchange(rules, run, rng):
     entered = {x[i] for i in run.good}
     left = {y[i] for i in run.good}
     if any(sum(c) != run.n for c in counts):
-        return "Ballots-make-n"
+        return "BallotsMakeN"
     if any(rules.flag_alone(y[i], grade[i]) != (grade[i] < 2) for i in run.good):
-        return "Exchange-bytes"
+        return "ExchangeBytes"
     rows = {i: (received(rules, run, 1, x, i), received(rules, run, 2, z, i)) for i in run.good}
     if any(garbled_alone(rules, run, x, z, i) != has_garbled(run, 2, rows[i][0]) + has_garbled(run, 3, rows[i][1]) for i in run.good):
         return "request 4's count of the exchange had alone"
     if run.f <= run.T and len(entered) == 1 and (left != entered or any(grade[i] < (2 if run.f <= run.t else 1) for i in run.good)):
-        return "Definition-6, validity"
+        return "Definition6, validity"
     sure = [i for i in run.good if grade[i] == 2 or (run.f <= run.t and grade[i] >= 1)]
     if run.f <= run.T and sure and len(left) > 1:
-        return "Definition-6, detection"
+        return "Definition6, detection"
     return None
 
 
@@ -124,9 +124,9 @@ def broken_reading(rules, run):
     """What a byte counts for in the first round of an exchange, and what one from the king leaves."""
     row = run.table[:run.n]
     if any([rules.first_value(rules.reading(FIRST, b)) for b in row].count(v) != row.count(v) for v in (0, 1)):
-        return "First-counts"
+        return "FirstCounts"
     if any(rules.king_value(y, rules.reading(KING, b)) != (b if b <= 1 else y) for y in (0, 1) for b in row):
-        return "Kings-word"
+        return "KingsWordLaw"
     return None
 
 
@@ -135,9 +135,9 @@ def broken_second_row(rules, run):
     for at in range(0, run.n * run.n, run.n):
         y, grade, (zeros, ones, _) = second_step(rules, run, run.table[at:at + run.n])
         if zeros == ones and (y, grade) != (0, 0):
-            return "Balance-has-grade-0"
+            return "BalanceHasGrade0"
         if y == 1 and ones <= zeros:
-            return "One-by-majority"
+            return "OneByMajority"
     return None
 
 
@@ -156,7 +156,7 @@ def broken_last_round(rules, run, said, outcomes):
     log = log_of(rules, run, said)
     for j in run.good:
         last = [log[Rules.offset(run.n, run.rounds, i, j)] for i in range(run.n)]
-        found = broken_end("Last-round", last, *outcomes[j][:3])
+        found = broken_end("LastRoundLaw", last, *outcomes[j][:3])
         if found:
             return found
     return None
@@ -168,7 +168,7 @@ def broken_last_row(rules, run):
     for at in range(0, len(run.table), run.n * run.n):
         row = run.table[at:at + run.n]
         station.take(row)
-    return broken_end("Last-row", row, station.value, station.grade, rules.flag(station.grade))
+    return broken_end("LastRow", row, station.value, station.grade, rules.flag(station.grade))
 
 
 def broken_ballot(rules, run, r, row):
@@ -183,13 +183,13 @@ def broken_count(rules, run, said, outcomes):
     for j in run.good:
         count, rows = outcomes[j][3], {r: [log[Rules.offset(run.n, r, i, j)] for i in range(run.n)] for r in range(1, run.rounds + 1)}
         if any(broken_ballot(rules, run, r, row) for r, row in rows.items()):
-            return "Good-ballots-readable"
+            return "GoodBallotsReadable"
         if run.f == 0 and count != 0:
-            return "None-marked-none-garbled"
+            return "NoneMarkedNoneGarbled"
         if not 0 <= count <= run.rounds:
-            return "Outcome-bytes"
+            return "OutcomeBytesLaw"
         if count != sum(garbled(rules, kind_of(r), one_of(run, r), row) for r, row in rows.items()):
-            return "Count-by-log"
+            return "CountByLog"
         if count != sum(has_garbled(run, r, row) for r, row in rows.items()):
             return "request 4's count"
     return None
@@ -202,20 +202,20 @@ def broken_station(rules, run, said, outcomes):
         station = Station(rules, run, j, run.value if j == run.sender else 1 - run.value)
         for r in range(1, run.rounds + 1):
             if isinstance(station.result(), tuple):
-                return "Station-follows-run, running-before"
+                return "StationFollowsRun, running_before"
             at = Rules.offset(run.n, r, j, 0)
             if any(station.ballot() != b for b in log[at:at + run.n]):
-                return "Station-follows-run, ballots"
+                return "StationFollowsRun, ballots"
             station.take([log[rules.row_place(run.n, r, i, j)] for i in range(run.n)])
         if station.result() != outcomes[j]:
-            return "Station-follows-run, done-after"
+            return "StationFollowsRun, done_after"
     for i in run.good:
         at = Rules.offset(run.n, 1, i, 0)
         if i != run.sender and log[at:at + run.n] != [SILENCE] * run.n:
-            return "Sent-by-rounds, not-sender"
+            return "SentByRoundsLaw, not_sender"
     for i in set(range(run.n)) - set(run.good):
         if outcomes[i] != (255,) * OUTCOME:
-            return "Outcome-bytes"
+            return "OutcomeBytesLaw"
     return None
 
 
@@ -287,10 +287,10 @@ def broken_set(keeping, run, log, outcomes, own):
     logged = Run(run.n, run.t, run.T, run.sender, 0, [False] * run.n, log)
     found = set(broke(logged, outcomes, keeping))
     if own and found != {i for i in range(run.n) if run.bad[i]}:
-        return "Own-logs"
+        return "OwnLogs"
     markings = list(run_markings(logged, outcomes))
     if found not in markings or not all(found <= one for one in markings):
-        return "Broke-least"
+        return "BrokeLeast"
     return None
 
 
@@ -331,12 +331,12 @@ def broken_bits(run, ends, log, outcomes):
     size = len(log) // len(ends)
     for b, (of_bit, decided) in enumerate(ends):
         if log[b * size:(b + 1) * size] != of_bit:
-            return "Bit-buffers"
+            return "BitBuffersLaw"
         for i in run.good:
             if outcomes[i][0] >> b & 1 != decided[i][0] or outcomes[i][1] > decided[i][1] or outcomes[i][3] < decided[i][3]:
-                return "Number-outcome-bytes"
+                return "NumberOutcomeBytesLaw"
     if any(outcomes[i][2] != (outcomes[i][1] < 2) or outcomes[i][3] not in [decided[i][3] for _, decided in ends] for i in run.good):
-        return "Number-outcome-bytes"
+        return "NumberOutcomeBytesLaw"
     return None
 
 
@@ -393,10 +393,10 @@ def broken_state(noise, seed):
     """What is shown of the state."""
     states = states_from(seed, 20, noise)
     holds = {
-        "States-stay": max(states) < noise.states,
-        "Never-zero": 0 not in states,
-        "Step-undone": all(mixed(after, UNDOING, noise) == state for state, after in itertools.pairwise(states)),
-        "Known-states": all(states_from(first, len(known), noise)[1:] == known for first, known in KNOWN.items()),
+        "StatesStay": max(states) < noise.states,
+        "NeverZero": 0 not in states,
+        "StepUndone": all(mixed(after, UNDOING, noise) == state for state, after in itertools.pairwise(states)),
+        "KnownStatesLaw": all(states_from(first, len(known), noise)[1:] == known for first, known in KNOWN.items()),
     }
     return " and ".join(name for name, held in holds.items() if not held)
 
@@ -408,10 +408,10 @@ def broken_tables(noise, run, w, seed):
     marks = sum(bad << i for i, bad in enumerate(run.bad))
     sheet = sheets.written(bytes((run.n, run.t, run.T, run.sender + 1, 0, w, 0, 0)) + marks.to_bytes(4, "little"), tables)
     holds = {
-        "Ballot-of-four": set(drawn) <= {0, 1, 2, 255},
-        "Generated-bytes, silent": set(other) <= {255},
-        "Generated-reads-back": sheets.read(sheet, [0] * len(tables)) == (0, tables),
-        "Generated-bytes by Steps-counted": drawn == [(0, 1, 2, 255)[state % 4] for state in states_from(seed, len(drawn))[1:]],
+        "BallotOfFour": set(drawn) <= {0, 1, 2, 255},
+        "GeneratedBytes, silent": set(other) <= {255},
+        "GeneratedReadsBack": sheets.read(sheet, [0] * len(tables)) == (0, tables),
+        "GeneratedBytes by StepsCountedLaw": drawn == [(0, 1, 2, 255)[state % 4] for state in states_from(seed, len(drawn))[1:]],
     }
     return " and ".join(name for name, held in holds.items() if not held)
 
@@ -473,14 +473,14 @@ def broken_step(offering, station, row):
     if (cause, right[:5]) != (0, following.state()):
         return "Together, shows"
     if right[5] != (SILENCE if following.is_done() else following.ballot()):
-        return "Shown-ballot"
+        return "ShownBallot"
     if any(accepted(station, row, handed, offering) != (17, before) for handed in others_of(right)):
         return "Together, other"
     if station.state() != before or offer(station, row, offering) != (0, right):
-        return "After-any-cuts"
+        return "AfterAnyCuts"
     if any(accepted(station, other, handed, offering) != (8, before) for other in (row[1:], [*row, 0]) for handed in (right, *others_of(right))):
         return "Together, refused"
-    return None if accepted(station, row, right, offering) == (0, following.state()) else "Accepting-is-taking"
+    return None if accepted(station, row, right, offering) == (0, following.state()) else "AcceptingIsTaking"
 
 
 def search_offers(offering, tries):

@@ -15,5 +15,5 @@ def closing(checks):
 def built(program):
     """Whether the program is there. If not, says how to build it and counts that as a failure."""
     if not program.exists():
-        print(f"{program.name} is not built; `rt check {program.name}` builds it\n0 passed, 1 failed")
+        print(f"{program.name} is not built; `./build {program.name}` builds it\n0 passed, 1 failed")
     return program.exists()

@@ -3,8 +3,8 @@
 
 Every path and every definition, statement, function or file that a document sets in backticks is there, and those that
 docs/AUDIT.md lays beside the papers stand in the file that it names; every wrong program that it names is there, and
-every one that is there is named, and so is every public call. README.md's picture of the crates is that of crates.txt, which lists what each names and
-no more. Prints what fails, then 'N passed, M failed'.
+every one that is there is named, and so is every public call. Those that the gate doesn't try fit the text that they change. README.md's picture of the crates is that
+of crates.txt, which lists what each names and no more. Prints what fails, then 'N passed, M failed'.
 """
 import pathlib
 import re
@@ -18,8 +18,8 @@ DOCUMENTS = [
     "README.md", "docs/PROMISES.md", "docs/AUDIT.md", "docs/DECISIONS.md", "controller/README.md", "peer/README.md", "vectors/README.md",
     *sorted(str(page.relative_to(TOP)) for page in TOP.glob("docs/changes/*.md")),
 ]
-WORD = re.compile(r"[\w\-′]+")
-NAME = re.compile(r"[A-Za-z_][\w\-′]*(::[A-Za-z_]\w*)*\Z")
+WORD = re.compile(r"[\w\-◌']+")
+NAME = re.compile(r"[A-Za-z_◌][\w\-◌']*(::[A-Za-z_]\w*)*\Z")
 PATH = re.compile(r"[\w.*\-]*/[\w./*\-]+\Z")
 EDIT = re.compile(r"`(\w+)`(\*?)")
 
@@ -78,6 +78,27 @@ def edits():
         yield f"wrong program {name}: in docs/AUDIT.md and in {where}", (name, star) in told and (name, star) in there
 
 
+def fits(edit):
+    """Whether what an edit replaces stands in its file, once."""
+    text = ""
+    for line in edit.read_text(encoding="utf-8").splitlines():
+        if line.startswith("file: "):
+            text = (TOP / "crates" / edit.parent.name / line[6:]).read_text(encoding="utf-8")
+        elif line.startswith("old: "):
+            old = line[5:]
+            if text.count(old) != 1:
+                return False
+        elif line.startswith("new: "):
+            text = text.replace(old, line[5:])
+    return text != ""
+
+
+def untried():
+    """The wrong programs of tests/wrong beside the crates."""
+    for edit in sorted(TOP.glob("tests/wrong/*/*.edit")):
+        yield f"{edit.relative_to(TOP)} fits crate {edit.parent.name}", fits(edit)
+
+
 def calls():
     """Every public function of a crate, and whether docs/AUDIT.md names it."""
     text = (TOP / "docs/AUDIT.md").read_text(encoding="utf-8")
@@ -94,6 +115,8 @@ def listed():
             areas[line[2:]] = []
         elif line:
             name, names = line.split(":")
+            # a static library has that word after its name
+            name = name.split()[0]
             areas[list(areas)[-1]].append(name)
             uses[name] = names.split()
     return areas, uses
@@ -108,9 +131,9 @@ def direct(names, uses):
 
 def named(crate, other):
     """Whether a crate's code, definitions or proofs name another crate."""
-    files = [*(TOP / "crates" / crate / "src").rglob("*.rt"), *(TOP / "crates" / crate).glob("**/*.antt")]
+    files = [file for part in ("src", "specs", "proofs") for file in (TOP / "crates" / crate / part).rglob("*") if file.suffix in (".rt", ".antt")]
     text = "\n".join(re.sub(r"(^|\s)(--|//).*", "", file.read_text(encoding="utf-8")) for file in files)
-    return re.search(rf"Rattle·{other}[.·]|(?<!\w){other}::", text)
+    return re.search(rf"(?<!\w)Rattle\.{other}\.|(?<!\w){other}::", text)
 
 
 def crates():
@@ -135,4 +158,4 @@ def crates():
 
 
 if __name__ == "__main__":
-    sys.exit(not closing([*names(words()), *definitions(), *edits(), *calls(), *crates()]))
+    sys.exit(not closing([*names(words()), *definitions(), *edits(), *untried(), *calls(), *crates()]))

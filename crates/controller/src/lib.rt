@@ -1,5 +1,6 @@
 // The station for a bonder's controller in C: numbers, and the row's byte slice. C keeps the five numbers that the station was opened with and
 // a state of five bytes. Each answer is 64 bits: the documents' number of the refusal in the highest byte, 0 where nothing is refused, and the values below.
+// Crate controller_c has the calls for C.
 #![tactic(auto)]
 
 ghost use Rattle.std.specs.Prelude.{◌≡◌};
@@ -14,8 +15,7 @@ use station::{Advanced, Opened, StationResult, Told};
 pub mod words;
 
 // A station before round 1: its state.
-#[unsafe(no_mangle)]
-pub extern "C" fn vembopu_open(n: u8, t: u8, upper: u8, sender: u8, own: u8, value: u8) -> u64
+pub fn vembopu_open(n: u8, t: u8, upper: u8, sender: u8, own: u8, value: u8) -> u64
     ensures { OpenAnswer n t upper sender own value result }
 {
     let opened = station::open(n, t, upper, sender, own, value);
@@ -26,8 +26,7 @@ pub extern "C" fn vembopu_open(n: u8, t: u8, upper: u8, sender: u8, own: u8, val
 }
 
 // The ballot for the current round, 255 if the station doesn't speak.
-#[unsafe(no_mangle)]
-pub extern "C" fn vembopu_ballot(n: u8, t: u8, upper: u8, sender: u8, own: u8, state: u64) -> u64
+pub fn vembopu_ballot(n: u8, t: u8, upper: u8, sender: u8, own: u8, state: u64) -> u64
     ensures { BallotAnswer n t upper sender own state result }
 {
     let told = station::ballot(words::station(n, t, upper, sender, own, state));
@@ -38,16 +37,7 @@ pub extern "C" fn vembopu_ballot(n: u8, t: u8, upper: u8, sender: u8, own: u8, s
 }
 
 // The state after the row received in the current round; the state handed in where it is refused.
-#[unsafe(no_mangle)]
-pub extern "C" fn vembopu_advance(
-    n: u8,
-    t: u8,
-    upper: u8,
-    sender: u8,
-    own: u8,
-    state: u64,
-    row: &[u8],
-) -> u64
+pub fn vembopu_advance(n: u8, t: u8, upper: u8, sender: u8, own: u8, state: u64, row: &[u8]) -> u64
     ensures { AdvanceAnswer n t upper sender own state row.now result }
 {
     let before = words::station(n, t, upper, sender, own, state);
@@ -59,8 +49,7 @@ pub extern "C" fn vembopu_advance(
 }
 
 // Running, with its round; or done, with value, grade, flag and how many rounds had a garbled ballot.
-#[unsafe(no_mangle)]
-pub extern "C" fn vembopu_result(n: u8, t: u8, upper: u8, sender: u8, own: u8, state: u64) -> u64
+pub fn vembopu_result(n: u8, t: u8, upper: u8, sender: u8, own: u8, state: u64) -> u64
     ensures { ResultAnswer n t upper sender own state result }
 {
     let found = station::result(words::station(n, t, upper, sender, own, state));

@@ -1,4 +1,4 @@
-// A lent station: the caller's own is advanced by one row where it stands. C can call it too, with the struct's ten bytes.
+// A lent station: the caller's own is advanced by one row where it stands. Crate lent_c has the call for C.
 #![tactic(auto)]
 
 ghost use Rattle.std.specs.Prelude.{◌≡◌};
@@ -28,8 +28,7 @@ fn take(s: Station, row: &[u8]) -> Taken
 
 // The lent station takes the row that it received in the current round. The answer is 0, or the number of the cause by which the row is refused; nothing is
 // written then.
-#[unsafe(no_mangle)]
-pub extern "C" fn vembopu_advance_lent(s: &mut Station, row: &[u8]) -> u8
+pub fn vembopu_advance_lent(s: &mut Station, row: &[u8]) -> u8
     ensures { AdvancesLent s.old row.now s.new result }
 {
     match take(*s, row) {
