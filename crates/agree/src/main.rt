@@ -2,12 +2,12 @@
 #![tactic(auto)]
 
 ghost use Rattle.std.specs.Prelude.{◌≡◌, ◌+◌, length};
-ghost use Rattle.io.specs.Counts.{IsPrefixLen};
+ghost use Rattle.std.specs.Counts.{IsPrefixLen};
 ghost use Rattle.layout.specs.Layout.{longest_sheet};
 ghost use Rattle.listing.specs.Promise.{Listed};
 
 use input::Input;
-use libc::{STDERR_FILENO, STDIN_FILENO, STDOUT_FILENO};
+use std::io;
 
 // The longest listing (`ListingShort` of crate listing).
 const LONGEST: usize = 457;
@@ -22,27 +22,27 @@ fn listed(sheet: &[u8], text: &mut [u8; LONGEST]) -> usize
 }
 
 // Lists a sheet.
-fn list(sheet: &[u8]) {
+fn list(rt: &(impl Print + Eprint), sheet: &[u8]) {
     let mut text = [0u8; LONGEST];
     let n = listed(sheet, &mut text);
-    if !io::write_all(STDOUT_FILENO, &text[..n]) {
-        io::write_all(STDERR_FILENO, b"agree: the listing could not be written\n");
+    if rt.write_all(&text[..n]).is_err() {
+        let _ = rt.eprintln("agree: the listing could not be written");
     }
 }
 
 // Reads a sheet, into a buffer of one byte more than the longest has: that byte tells that an input is longer.
-fn read(sheet: &mut [u8])
+fn read(rt: &(impl io::Input + Print + Eprint), sheet: &mut [u8])
     requires { length sheet.old ≡ longest_sheet + 1 }
 {
-    match input::whole(STDIN_FILENO, sheet) {
-        Input::Bytes(n) => list(&sheet[..n]),
-        Input::Failed => {
-            io::write_all(STDERR_FILENO, b"agree: standard input could not be read\n");
+    match input::whole(&mut rt.reader(), sheet) {
+        Input::Bytes(n) => list(rt, &sheet[..n]),
+        Input::Failed(_) => {
+            let _ = rt.eprintln("agree: standard input could not be read");
         }
     }
 }
 
-fn main() {
+fn main(rt: HostRuntime) {
     let mut sheet = [0u8; layout::LONGEST_SHEET + 1];
-    read(&mut sheet);
+    read(&rt, &mut sheet);
 }

@@ -2,19 +2,28 @@
 // outcomes' file.
 #![tactic(auto)]
 
+mod trouble;
+
 ghost use Rattle.std.specs.Prelude.{◌≡◌, ◌+◌, length, take};
-ghost use Rattle.io.specs.Counts.{IsPrefixLen};
+ghost use Rattle.std.specs.Counts.{IsPrefixLen};
 ghost use Rattle.input.specs.Reading.{Within};
 ghost use Rattle.checker.specs.Promise.{logged, check_answer};
 ghost use Rattle.finding.specs.Finding.{finding};
 
 use argument::Argument;
 use input::Input;
-use libc::{STDERR_FILENO, STDOUT_FILENO};
 use line::Line;
+use std::env::FillError;
+use std::fs::File;
+use std::io;
+use std::io::{Read, Stderr};
+use std::rt::{Env, Files};
 
 // The longest line (`FindingShort` of crate finding).
 const LONGEST: usize = 93;
+
+// The longest argument that is looked at, which no file's name reaches.
+const LONGEST_ARGUMENT: usize = 4096;
 
 // The line that tells what is found, whole, at the start of the text.
 fn found(line: Line, sender: u8, log: &[u8], outcomes: &[u8], text: &mut [u8; LONGEST]) -> usize
@@ -25,91 +34,118 @@ fn found(line: Line, sender: u8, log: &[u8], outcomes: &[u8], text: &mut [u8; LO
 }
 
 // Writes that line.
-fn tell(line: Line, sender: u8, log: &[u8], outcomes: &[u8]) {
+fn tell(rt: &(impl Print + Eprint), line: Line, sender: u8, log: &[u8], outcomes: &[u8]) {
     let mut text = [0u8; LONGEST];
     let n = found(line, sender, log, outcomes, &mut text);
-    if !io::write_all(STDOUT_FILENO, &text[..n]) {
-        io::write_all(STDERR_FILENO, b"audit: the line could not be written\n");
+    if rt.write_all(&text[..n]).is_err() {
+        let _ = rt.eprintln("audit: the line could not be written");
     }
 }
 
-// Reads an open file to its end, and closes it.
-fn read_open(fd: i32, path: &[u8], buf: &mut [u8]) -> Input
+// Reads an open file to its end.
+fn read_open<F: Read>(errors: Stderr, file: &mut F, name: &[u8], buf: &mut [u8]) -> Input
     ensures { Within result buf.new }
 {
-    let got = input::whole(fd, buf);
-    if let Input::Failed = got {
-        os::fail(path);
+    let got = input::whole(file, buf);
+    if let Input::Failed(why) = got {
+        trouble::say(errors, name, why);
     }
-    libc::close(fd);
     got
 }
 
+// Reads the file of that name.
+fn read_named<R: Files>(rt: &R, errors: Stderr, name: &[u8], buf: &mut [u8]) -> Input
+    ensures { Within result buf.new }
+{
+    match opened(rt, name) {
+        Ok(mut file) => read_open(errors, &mut file, name, buf),
+        Err(why) => {
+            trouble::say(errors, name, why);
+            Input::Failed(why)
+        }
+    }
+}
+
+// Opens it. The library's names of files are text: a name that is none is told by the system's word for that.
+fn opened<R: Files>(rt: &R, name: &[u8]) -> io::Result<R::File> {
+    match std::str::from_utf8(name) {
+        Ok(text) => File::open(rt, text),
+        Err(_) => Err(trouble::not_text()),
+    }
+}
+
 // Reads the file that argument i names, or says why it can't be. The buffer has one byte more than the most that is wanted, which tells that the file is longer.
-fn read(i: usize, most: usize, buf: &mut [u8]) -> Input
+fn read<R: Env + Files>(rt: &R, errors: Stderr, i: usize, most: usize, buf: &mut [u8]) -> Input
     requires { length buf.old ≡ most + 1 }
     ensures { Within result buf.new }
 {
-    let mut path = io::buffer();
-    let len = os::arg(i, &mut path);
-    if os::errno() != 0 {
-        os::fail(&path);
-        return Input::Failed;
+    let mut name = [0u8; LONGEST_ARGUMENT];
+    match rt.arg(i, &mut name) {
+        Ok(len) => read_named(rt, errors, &name[..len], buf),
+        Err(why) => {
+            let why = trouble::of_argument(why);
+            trouble::say(errors, &name, why);
+            Input::Failed(why)
+        }
     }
-    let fd = os::open_read(&path[..len]);
-    if fd < 0 {
-        os::fail(&path[..len]);
-        return Input::Failed;
-    }
-    read_open(fd, &path[..len], buf)
 }
 
 // Reads both files.
-fn audit(line: Line, sender: u8) {
+fn audit<R: Env + Files + Print + Eprint>(rt: &R, errors: Stderr, line: Line, sender: u8) {
     let mut log = [0u8; Line::LARGEST_TABLE + 1];
     let mut outcomes = [0u8; Line::LARGEST_OUTCOMES + 1];
-    let Input::Bytes(log_len) = read(5, Line::LARGEST_TABLE, &mut log) else {
+    let Input::Bytes(log_len) = read(rt, errors, 5, Line::LARGEST_TABLE, &mut log) else {
         return;
     };
-    let Input::Bytes(outcomes_len) = read(6, Line::LARGEST_OUTCOMES, &mut outcomes) else {
+    let Input::Bytes(outcomes_len) = read(rt, errors, 6, Line::LARGEST_OUTCOMES, &mut outcomes)
+    else {
         return;
     };
-    tell(line, sender, &log[..log_len], &outcomes[..outcomes_len]);
+    tell(rt, line, sender, &log[..log_len], &outcomes[..outcomes_len]);
 }
 
 // Argument i as a number.
-fn number(i: usize) -> Argument {
-    let mut text = io::buffer();
-    let len = os::arg(i, &mut text);
-    argument::number(&text[..len])
+fn number(rt: &impl Env, i: usize) -> Argument {
+    let mut text = [0u8; LONGEST_ARGUMENT];
+    match rt.arg(i, &mut text) {
+        Ok(len) => argument::number(&text[..len]),
+        Err(_) => Argument::Other,
+    }
+}
+
+// Whether there is an argument i.
+fn is_given(rt: &impl Env, i: usize) -> bool {
+    !matches!(rt.arg(i, &mut []), Err(FillError::NotPresent))
 }
 
 // Whether the arguments are as wanted, and then what they ask for.
-fn asked() -> bool {
-    if os::arg_count() != 7 {
+fn asked<R: Env + Files + Print + Eprint>(rt: &R, errors: Stderr) -> bool {
+    if !is_given(rt, 6) {
         return false;
     }
-    let Argument::Number(n) = number(1) else {
+    if is_given(rt, 7) {
+        return false;
+    }
+    let Argument::Number(n) = number(rt, 1) else {
         return false;
     };
-    let Argument::Number(t) = number(2) else {
+    let Argument::Number(t) = number(rt, 2) else {
         return false;
     };
-    let Argument::Number(upper) = number(3) else {
+    let Argument::Number(upper) = number(rt, 3) else {
         return false;
     };
-    let Argument::Number(sender) = number(4) else {
+    let Argument::Number(sender) = number(rt, 4) else {
         return false;
     };
-    audit(Line { n, t, upper }, sender);
+    audit(rt, errors, Line { n, t, upper }, sender);
     true
 }
 
-fn main() {
-    if !asked() {
-        io::write_all(
-            STDERR_FILENO,
-            b"audit: wanted are n, t, T and the sender in decimal, the log's file and the outcomes' file\n",
+fn main(rt: HostRuntime) {
+    if !asked(&rt, rt.stderr()) {
+        let _ = rt.eprintln(
+            "audit: wanted are n, t, T and the sender in decimal, the log's file and the outcomes' file",
         );
     }
 }

@@ -4,30 +4,35 @@
 ghost use Rattle.std.specs.Prelude.{◌≡◌};
 ghost use Rattle.input.specs.Reading.{of_read, Within, Room, following};
 
+use std::io;
+use std::io::Read;
+
 #[derive(Clone, Copy)]
 pub enum Input {
     // So many bytes stand at the start of the buffer.
     Bytes(usize),
-    // A read failed. Bytes may have been written to the buffer.
-    Failed,
+    // A read failed, and why. Bytes may have been written to the buffer.
+    Failed(io::Error),
 }
 
-// What C's read answered, of the buffer that it was lent.
-fn answered(got: isize, buf: &[u8]) -> Input
-    ensures { result ≡ of_read got buf.now }
+// What a read answered, in these terms.
+#[tactic(auto, unfolding(crate::specs::Reading::of_read))]
+fn answered(got: io::Result<usize>) -> Input
+    ensures { result ≡ of_read got }
 {
-    if got < 0 {
-        return Input::Failed;
+    match got {
+        Ok(n) => Input::Bytes(n),
+        Err(why) => Input::Failed(why),
     }
-    Input::Bytes(io::count(got, buf))
 }
 
 // One read.
-fn once(fd: i32, buf: &mut [u8]) -> Input
+#[tactic(auto, using(crate::proofs::ReadingLaws::read_within))]
+fn once<R: Read>(reader: &mut R, buf: &mut [u8]) -> Input
     ensures { Within result buf.new }
 {
-    let got = libc::read(fd, buf);
-    answered(got, buf)
+    let got = reader.read(buf);
+    answered(got)
 }
 
 // What is to be done after a read.
@@ -40,12 +45,13 @@ enum Next {
 }
 
 // After a read that came to `got` where so many bytes were there: a read of no byte is the end of the input.
+#[tactic(auto, unfolding(crate::specs::Reading::following))]
 fn following(done: usize, got: Input) -> Next
     requires { Room done got }
     ensures { result ≡ following done got }
 {
     let Input::Bytes(more) = got else {
-        return Next::End(Input::Failed);
+        return Next::End(got);
     };
     if more == 0 {
         return Next::End(Input::Bytes(done));
@@ -54,12 +60,12 @@ fn following(done: usize, got: Input) -> Next
 }
 
 // Reads until the buffer is full, the input ends, or a read fails. Which bytes are read no contract can say.
-pub fn whole(fd: i32, buf: &mut [u8]) -> Input
+pub fn whole<R: Read>(reader: &mut R, buf: &mut [u8]) -> Input
     ensures { Within result buf.new }
 {
     let mut done = 0;
     while done < buf.len() {
-        let got = once(fd, &mut buf[done..]);
+        let got = once(reader, &mut buf[done..]);
         match following(done, got) {
             Next::On(there) => done = there,
             Next::End(answer) => return answer,

@@ -2,7 +2,7 @@
 #![tactic(auto)]
 
 ghost use Rattle.std.specs.Prelude.{◌≡◌, ◌+◌, ◌≤◌, min, length, take};
-ghost use Rattle.io.specs.Counts.{IsPrefixLen};
+ghost use Rattle.std.specs.Counts.{IsPrefixLen};
 ghost use Rattle.line.specs.Width.{largest_tables};
 ghost use Rattle.refusal.specs.declared.cause.Verdict.TheVariants.{Accepted};
 ghost use Rattle.layout.specs.Layout.{longest_sheet, tables_wanted};
@@ -11,9 +11,9 @@ ghost use Rattle.writer.specs.Judgement.{before_buffer};
 ghost use Rattle.rewrite.specs.Output.{Rewritten};
 
 use input::Input;
-use libc::{STDERR_FILENO, STDIN_FILENO, STDOUT_FILENO};
 use line::Line;
 use reader::Reading;
+use std::io;
 use writer::Need;
 
 // The longest sheet.
@@ -56,30 +56,27 @@ fn rewritten(sheet: &[u8], out: &mut [u8; LONGEST]) -> usize
 }
 
 // Writes a sheet's normal form to standard output.
-fn put(sheet: &[u8]) {
+fn put(rt: &(impl Print + Eprint), sheet: &[u8]) {
     let mut out = [0u8; LONGEST];
     let n = rewritten(sheet, &mut out);
-    if !io::write_all(STDOUT_FILENO, &out[..n]) {
-        io::write_all(STDERR_FILENO, b"rewrite: the sheet could not be written\n");
+    if rt.write_all(&out[..n]).is_err() {
+        let _ = rt.eprintln("rewrite: the sheet could not be written");
     }
 }
 
 // Reads a sheet, into a buffer of one byte more than the longest has: that byte tells that an input is longer.
-fn read(sheet: &mut [u8])
+fn read(rt: &(impl io::Input + Print + Eprint), sheet: &mut [u8])
     requires { length sheet.old ≡ longest_sheet + 1 }
 {
-    match input::whole(STDIN_FILENO, sheet) {
-        Input::Bytes(n) => put(&sheet[..n]),
-        Input::Failed => {
-            io::write_all(
-                STDERR_FILENO,
-                b"rewrite: standard input could not be read\n",
-            );
+    match input::whole(&mut rt.reader(), sheet) {
+        Input::Bytes(n) => put(rt, &sheet[..n]),
+        Input::Failed(_) => {
+            let _ = rt.eprintln("rewrite: standard input could not be read");
         }
     }
 }
 
-fn main() {
+fn main(rt: HostRuntime) {
     let mut sheet = [0u8; layout::LONGEST_SHEET + 1];
-    read(&mut sheet);
+    read(&rt, &mut sheet);
 }

@@ -3,7 +3,7 @@
 #![tactic(auto)]
 
 ghost use Rattle.std.specs.Prelude.{◌≡◌, ◌+◌, ◌≤◌, min, length};
-ghost use Rattle.io.specs.Counts.{IsPrefixLen};
+ghost use Rattle.std.specs.Counts.{IsPrefixLen};
 ghost use Rattle.line.specs.Line.{largest_table};
 ghost use Rattle.layout.specs.Layout.{longest_sheet, table_wanted};
 ghost use Rattle.text.specs.Laid.{Puts};
@@ -13,27 +13,25 @@ ghost use Rattle.seeds.specs.Loops.{Seed, Ready, Begun, longest_output};
 
 use input::Input;
 use layout::Header;
-use libc::{STDERR_FILENO, STDIN_FILENO, STDOUT_FILENO};
 use line::Line;
 use reader::Reading;
+use std::io;
+use std::io::{IsTerminal, Stderr};
 
 // A hundred of the longest listings (`ListingsShort` of crate seeded).
 const LONGEST: usize = 45700;
 
 // Says on a terminal how many listings are made.
-fn progress(terminal: bool, seed: u32) {
-    if !terminal {
-        return;
+fn progress(terminal: Option<Stderr>, seed: u32) {
+    if let Some(screen) = terminal {
+        let _ = eprint!(screen; "\rseeds: {seed} of 100");
     }
-    io::write_all(STDERR_FILENO, b"\rseeds: ");
-    io::print_decimal(STDERR_FILENO, seed as u64);
-    io::write_all(STDERR_FILENO, b" of 100");
 }
 
 // Wipes what was said.
-fn wipe(terminal: bool) {
-    if terminal {
-        io::write_all(STDERR_FILENO, b"\r                 \r");
+fn wipe(terminal: Option<Stderr>) {
+    if let Some(screen) = terminal {
+        let _ = screen.eprint("\r                 \r");
     }
 }
 
@@ -61,7 +59,7 @@ fn list_seeds(
     log: &mut [u8],
     outcomes: &mut [u8],
     out: &mut [u8],
-    terminal: bool,
+    terminal: Option<Stderr>,
 ) -> usize
     requires { Ready header table.old log.old outcomes.old }
     ensures { Puts out.old out.new 0 (listings header last_seed) result }
@@ -84,7 +82,7 @@ fn list_header(
     table: &mut [u8],
     log: &mut [u8],
     out: &mut [u8],
-    terminal: bool,
+    terminal: Option<Stderr>,
 ) -> usize
     requires { Begun sheet.now header table.old log.old }
     ensures { Puts out.old out.new 0 (listings header last_seed) result }
@@ -95,7 +93,13 @@ fn list_header(
 }
 
 // Reads a sheet, and lists the runs of its header.
-fn list(sheet: &[u8], table: &mut [u8], log: &mut [u8], out: &mut [u8], terminal: bool) -> usize
+fn list(
+    sheet: &[u8],
+    table: &mut [u8],
+    log: &mut [u8],
+    out: &mut [u8],
+    terminal: Option<Stderr>,
+) -> usize
     requires { (length table.old ≡ min (table_wanted sheet.now) largest_table) × (length log.old ≡ length table.old) × (length out.old ≡ longest_output) }
     ensures { Printed sheet.now out.new result }
 {
@@ -107,7 +111,7 @@ fn list(sheet: &[u8], table: &mut [u8], log: &mut [u8], out: &mut [u8], terminal
 }
 
 // All that is printed of a sheet, at the start of the output: one table and one log serve all bits of all runs.
-fn listed(sheet: &[u8], out: &mut [u8; LONGEST], terminal: bool) -> usize
+fn listed(sheet: &[u8], out: &mut [u8; LONGEST], terminal: Option<Stderr>) -> usize
     ensures { Printed sheet.now out.new result × IsPrefixLen result out.new }
 {
     let mut table = [255; 36864];
@@ -117,27 +121,36 @@ fn listed(sheet: &[u8], out: &mut [u8; LONGEST], terminal: bool) -> usize
 }
 
 // Writes it to standard output.
-fn put(sheet: &[u8]) {
+fn put(rt: &(impl Print + Eprint), terminal: Option<Stderr>, sheet: &[u8]) {
     let mut out = [0u8; LONGEST];
-    let n = listed(sheet, &mut out, libc::isatty(STDERR_FILENO) == 1);
-    if !io::write_all(STDOUT_FILENO, &out[..n]) {
-        io::write_all(STDERR_FILENO, b"seeds: the listings could not be written\n");
+    let n = listed(sheet, &mut out, terminal);
+    if rt.write_all(&out[..n]).is_err() {
+        let _ = rt.eprintln("seeds: the listings could not be written");
     }
 }
 
 // Reads a sheet, into a buffer of one byte more than the longest has: that byte tells that an input is longer.
-fn read(sheet: &mut [u8])
+fn read(rt: &(impl io::Input + Print + Eprint), terminal: Option<Stderr>, sheet: &mut [u8])
     requires { length sheet.old ≡ longest_sheet + 1 }
 {
-    match input::whole(STDIN_FILENO, sheet) {
-        Input::Bytes(n) => put(&sheet[..n]),
-        Input::Failed => {
-            io::write_all(STDERR_FILENO, b"seeds: standard input could not be read\n");
+    match input::whole(&mut rt.reader(), sheet) {
+        Input::Bytes(n) => put(rt, terminal, &sheet[..n]),
+        Input::Failed(_) => {
+            let _ = rt.eprintln("seeds: standard input could not be read");
         }
     }
 }
 
-fn main() {
+// Standard error, where that is a terminal.
+fn terminal(screen: Stderr) -> Option<Stderr> {
+    if screen.is_terminal() {
+        Some(screen)
+    } else {
+        None
+    }
+}
+
+fn main(rt: HostRuntime) {
     let mut sheet = [0u8; layout::LONGEST_SHEET + 1];
-    read(&mut sheet);
+    read(&rt, terminal(rt.stderr()), &mut sheet);
 }

@@ -15,34 +15,34 @@ fn sevens() -> [u8; 36864] {
 }
 
 // Rehearses what an accepted sheet says.
-fn decide(h: Header, table: &[u8], log: &mut [u8], outcomes: &mut [u8]) {
+fn decide(out: &impl Print, h: Header, table: &[u8], log: &mut [u8], outcomes: &mut [u8]) {
     let line = Line {
         n: h.n,
         t: h.t,
         upper: h.upper,
     };
     let verdict = recipe::rehearse(line, h.sender, h.value, h.w, h.marks, table, log, outcomes);
-    print::rehearsal(verdict.code(), log, outcomes);
+    print::rehearsal(out, verdict.code(), log, outcomes);
 }
 
 // Lends logs of the tables' length and the outcomes of n stations.
-fn accepted(h: Header, table: &[u8], lent: u16) {
-    print::header(h, table);
+fn accepted(out: &impl Print, h: Header, table: &[u8], lent: u16) {
+    print::header(out, h, table);
     let mut log = sevens();
-    let a = io::count(lent as isize, &log);
+    let a = slices::shorter(lent as usize, log.len());
     let mut outcomes = sevens();
-    let b = io::count((Line::OUTCOME as u16 * (h.n as u16)) as isize, &outcomes);
-    decide(h, table, &mut log[..a], &mut outcomes[..b]);
+    let b = Line::OUTCOME * (h.n as usize);
+    decide(out, h, table, &mut log[..a], &mut outcomes[..b]);
 }
 
 // Reads the sheet into the lent table, and rehearses it if it is accepted. What is printed no contract can say.
-pub fn run(k: u64, sheet: &[u8], lent: u16, table: &mut [u8])
+pub fn run<P: Print>(out: &P, k: u64, sheet: &[u8], lent: u16, table: &mut [u8])
     ensures { Leaves sheet.now table.old table.new }
 {
-    print::name(k);
+    print::name(out, k);
     let reading = reader::read(sheet, table);
     match reading {
-        Reading::Accepted(h) => accepted(h, table, lent),
-        Reading::Refused(c) => print::refusal(c.number(), table),
+        Reading::Accepted(h) => accepted(out, h, table, lent),
+        Reading::Refused(c) => print::refusal(out, c.number(), table),
     }
 }

@@ -1,65 +1,68 @@
 // What is printed of a stored run, to standard output. What is printed no contract can say.
 use layout::Header;
-use libc::STDOUT_FILENO;
+
+// A text, as far as it can be printed.
+fn text(out: &impl Print, words: &str) {
+    let _ = out.print(words);
+}
 
 // A number, and a space before it.
-fn number(n: u64) {
-    io::write_all(STDOUT_FILENO, b" ");
-    io::print_decimal(STDOUT_FILENO, n);
+fn number(out: &impl Print, n: u64) {
+    let _ = print!(out; " {n}");
 }
 
 // The run's own number.
-pub(crate) fn name(k: u64) {
-    io::write_all(STDOUT_FILENO, b"run");
-    number(k);
-    io::write_all(STDOUT_FILENO, b":");
+pub(crate) fn name(out: &impl Print, k: u64) {
+    text(out, "run");
+    number(out, k);
+    text(out, ":");
 }
 
 // The checksum of the lent table.
-fn table(table: &[u8]) {
-    io::write_all(STDOUT_FILENO, b"; table");
-    number(checksum(table));
+fn table(out: &impl Print, table: &[u8]) {
+    text(out, "; table");
+    number(out, checksum(table));
 }
 
 // An accepted sheet: n, t, T, sender, value, w and marks.
-pub(crate) fn header(h: Header, lent: &[u8]) {
-    number(h.n as u64);
-    number(h.t as u64);
-    number(h.upper as u64);
-    number(h.sender as u64);
-    number(h.value as u64);
-    number(h.w as u64);
-    number(h.marks as u64);
-    table(lent);
+pub(crate) fn header(out: &impl Print, h: Header, lent: &[u8]) {
+    number(out, h.n as u64);
+    number(out, h.t as u64);
+    number(out, h.upper as u64);
+    number(out, h.sender as u64);
+    number(out, h.value as u64);
+    number(out, h.w as u64);
+    number(out, h.marks as u64);
+    table(out, lent);
 }
 
 // A refused sheet.
-pub(crate) fn refusal(cause: u8, lent: &[u8]) {
-    io::write_all(STDOUT_FILENO, b" refused");
-    number(cause as u64);
-    table(lent);
-    io::write_all(STDOUT_FILENO, b"\n");
+pub(crate) fn refusal(out: &impl Print, cause: u8, lent: &[u8]) {
+    text(out, " refused");
+    number(out, cause as u64);
+    table(out, lent);
+    text(out, "\n");
 }
 
 // The rehearsal's answer, by its code, the bytes of the outcomes, and the checksums of the log and of the outcomes.
-pub(crate) fn rehearsal(code: u8, log: &[u8], outcomes: &[u8]) {
+pub(crate) fn rehearsal(out: &impl Print, code: u8, log: &[u8], outcomes: &[u8]) {
     if code == 0 {
-        io::write_all(STDOUT_FILENO, b"; accepted:");
+        text(out, "; accepted:");
     } else {
-        io::write_all(STDOUT_FILENO, b"; refused:");
+        text(out, "; refused:");
     }
-    bytes(outcomes);
-    io::write_all(STDOUT_FILENO, b"; sums");
-    number(checksum(log));
-    number(checksum(outcomes));
-    io::write_all(STDOUT_FILENO, b"\n");
+    bytes(out, outcomes);
+    text(out, "; sums");
+    number(out, checksum(log));
+    number(out, checksum(outcomes));
+    text(out, "\n");
 }
 
 // Every byte of it.
-fn bytes(list: &[u8]) {
+fn bytes(out: &impl Print, list: &[u8]) {
     let mut i: usize = 0;
     while i < list.len() {
-        number(slices::at(list, i) as u64);
+        number(out, slices::at(list, i) as u64);
         i += 1;
     }
 }

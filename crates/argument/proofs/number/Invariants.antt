@@ -1,15 +1,10 @@
 -- `number` meets its contract. The loop's invariant: the first i bytes are digits, and x is their number as far as 255.
-use borrow.Author.Rules.{rules}
 use Prim.Native.Nat.{◌≤◌, ◌-◌, min}
-use mathlib.Core.Path.{◌≡◌, sym, ap, ◌∙◌}
+use mathlib.Core.Path.{◌≡◌}
 use mathlib.Core.Bool.{true}
-use native.Mathlib.Omega.{arith}
 use lib.ListN.{length, get_or}
-use borrow.Author.Tests.{not-true, not-false}
 use Rattle.line.specs.Count.{all}
-use Rattle.argument.specs.declared.Argument.TheVariants.{Number}
 use Rattle.argument.specs.Argument.{digit_byte, read}
-use Rattle.argument.proofs.ArgumentLaws.{digit_low, read_none, read_turn, digits_none, digits_turn, other_byte, no_byte, a_number}
 use Rattle.argument.proofs.number.Given as goal
 
 abbrev pub invariant-loop-i : goal.invariant-loop-i

@@ -1,6 +1,5 @@
--- `main` ends.
-use borrow.Author.Rules.{rules}
-use Prim.Native.Nat.{◌-◌, ◌≤◌}
+-- The measure is the numbers left.
+use Rattle.std.proofs.Common.{◌-◌, ◌≤◌}
 use Rattle.stored_runs.proofs.main.Given as goal
 
 abbrev pub invariant-loop-k : goal.invariant-loop-k

@@ -1,11 +1,9 @@
--- `bytes` is safe and ends.
-use borrow.Author.Rules.{rules}
-use Prim.Native.Nat.{◌-◌, ◌≤◌}
-use lib.ListN.{length}
+-- The measure is the bytes left.
+use Rattle.std.proofs.Common.{length, ◌-◌, ◌≤◌}
 use Rattle.stored_run.proofs.print.bytes.Given as goal
 
 abbrev pub invariant-loop-i : goal.invariant-loop-i
-invariant-loop-i l = l.i ≤ length l.list
+invariant-loop-i g l = l.i ≤ length l.list
 
 abbrev pub decreases-loop-i : goal.decreases-loop-i
-decreases-loop-i l = length l.list - l.i
+decreases-loop-i g l = length l.list - l.i

@@ -1,7 +1,5 @@
--- `checksum` is safe and ends.
-use borrow.Author.Rules.{rules}
-use Prim.Native.Nat.{◌-◌, ◌≤◌}
-use lib.ListN.{length}
+-- The measure is the bytes left.
+use Rattle.std.proofs.Common.{length, ◌-◌, ◌≤◌}
 use Rattle.stored_run.proofs.print.checksum.Given as goal
 
 abbrev pub invariant-loop-i : goal.invariant-loop-i
