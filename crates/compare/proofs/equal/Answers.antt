@@ -19,7 +19,7 @@ pub loop-j-preserved : goal.loop-j-preserved
 loop-j-preserved c =
     let g = c.args in
     elim c.if-bytes-at.branch [
-      then-bytes-at w ↦ omega (arith, c.loop-j.invariant.1, equal_hit g.bytes.now g.at g.b c.loop-j.j w.if-bytes-at.true)
+      | then-bytes-at w ↦ omega (arith, c.loop-j.invariant.1, equal_hit g.bytes.now g.at g.b c.loop-j.j w.if-bytes-at.true)
       | else-bytes-at w ↦ omega (arith, c.loop-j.invariant.1, equal_miss g.bytes.now g.at g.b c.loop-j.j w.if-bytes-at.false)
     ]
 

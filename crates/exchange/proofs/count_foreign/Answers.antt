@@ -24,7 +24,7 @@ loop-i-preserved c =
     let e = c.is_marked-marked.ensures in
     let f = rw e at c.foreign.ensures in
     elim c.if-foreign.branch [
-      then-foreign w ↦ omega (arith, foreign_hit s.marks s.inputs.now i (sym f ∙ w.if-foreign.true))
+      | then-foreign w ↦ omega (arith, foreign_hit s.marks s.inputs.now i (sym f ∙ w.if-foreign.true))
       | else-foreign w ↦ omega (arith, foreign_miss s.marks s.inputs.now i (sym f ∙ w.if-foreign.false))
     ]
 

@@ -15,8 +15,7 @@ loop-round-init c = (omega arith, sym (no_rounds _), sym (count_zero _))
 
 pub in_round-k-requires : goal.in_round-k-requires
 in_round-k-requires c =
-    let l = c.loop-round in
-    (
+    let l = c.loop-round in (
       c.requires.few,
       omega (arith, c.requires.whole, l.invariant.1, round_within c.args.n l.round c.args.last (omega arith)),
       rw l.invariant.1 (round_rows c.args.n l.round),

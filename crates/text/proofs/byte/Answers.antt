@@ -9,6 +9,6 @@ returns c =
     let size = c.well_formed.0.0 in
     rw c.next.ensures
     (elim c.if-at-out.branch [
-      then-at-out w ↦ rw w.out-is (puts_one a.out.now a.at a.b size)
+      | then-at-out w ↦ rw w.out-is (puts_one a.out.now a.at a.b size)
       | else-at-out w ↦ rw w.out-is (puts_out a.out.now a.at a.b size w.if-at-out.false)
     ])
