@@ -1,5 +1,5 @@
 -- The statements that proofs/Theorems.antt proves, each under the same name in lower case, for every w together. Station i is counted from 0.
-use Rattle.std.specs.Prelude.{ℕ, ◌+◌, ◌*◌, ◌^◌, ◌≤◌, ◌<◌, ◌≡◌, true, false, List, length}
+use Rattle.std.specs.Prelude.{ℕ, ◌+◌, ◌*◌, ◌^◌, ◌≤◌, ◌<◌, ◌≡◌, true, false, length}
 use Rattle.line.specs.Line.{Fits, from_0, rounds, table_length, outcomes_length, place}
 use Rattle.line.specs.Marks.{marked}
 use Rattle.line.specs.Width.{bits, bit_of, tables_length, part_of}

@@ -10,8 +10,7 @@ use Rattle.line.specs.Line.{Fits, from_0, rounds}
 use Rattle.line.specs.Marks.{marked, mark_beyond}
 use Rattle.line.proofs.CountLaws.{le_or_lt}
 use Rattle.line.proofs.MarksLaws.{marked_above_width, beyond_some, marks_same, marks_below, marks_back, marks_are}
-use Rattle.broadcast.specs.Station.{at}
-use Rattle.broadcast.specs.Bytes.{Run, log, outcomes, setup}
+use Rattle.broadcast.specs.Bytes.{Run, outcomes, setup}
 use Rattle.broadcast.specs.Guarantees.{Good}
 use Rattle.broadcast.specs.Theorems.{grade_at, PutTogether, MakeRun}
 use Rattle.broadcast.proofs.Theorems.{outcome_bytes, station_follows_run, stations_make_run}

@@ -1,5 +1,4 @@
 -- `bit` meets its contract.
-use borrow.Author.Rules.{rules}
 use Rattle.header.specs.Header.{bit}
 use Rattle.header.proofs.bit.Goals as goal
 

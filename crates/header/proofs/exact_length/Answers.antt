@@ -1,5 +1,4 @@
 -- `exact_length` meets its contract.
-use borrow.Author.Rules.{rules}
 use Rattle.header.specs.Header.{exact_length}
 use Rattle.header.proofs.exact_length.Goals as goal
 

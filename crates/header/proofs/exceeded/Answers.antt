@@ -1,5 +1,4 @@
 -- `exceeded` meets its contract: one test after the other.
-use borrow.Author.Rules.{rules}
 use borrow.Author.Tests.{lt-ltb, le-ltb}
 use Rattle.header.specs.Header.{exceeded}
 use Rattle.header.proofs.exceeded.Goals as goal

@@ -1,5 +1,4 @@
 -- `header_verdict` meets its contract.
-use borrow.Author.Rules.{rules}
 use Rattle.header.specs.Header.{header_verdict}
 use Rattle.refusal.proofs.VerdictLaws.{judged}
 use Rattle.header.proofs.header_verdict.Goals as goal

@@ -1,5 +1,4 @@
 -- `line_verdict` meets its contract.
-use borrow.Author.Rules.{rules}
 use Rattle.header.specs.Header.{line_verdict}
 use Rattle.refusal.proofs.VerdictLaws.{judged}
 use Rattle.header.proofs.line_verdict.Goals as goal

@@ -1,5 +1,4 @@
 -- `mark_beyond` meets its contract.
-use borrow.Author.Rules.{rules}
 use mathlib.Core.Path.{sym}
 use native.Mathlib.Omega.{arith}
 use Rattle.line.proofs.MarksLaws.{beyond_shift, beyond_above}

@@ -1,5 +1,4 @@
 -- `marks_within` meets its contract.
-use borrow.Author.Rules.{rules}
 use Rattle.header.specs.Header.{marks_within}
 use Rattle.refusal.proofs.VerdictLaws.{judged}
 use Rattle.header.proofs.marks_within.Goals as goal

@@ -1,5 +1,4 @@
 -- `number_verdict` meets its contract.
-use borrow.Author.Rules.{rules}
 use Rattle.header.specs.Header.{number_verdict}
 use Rattle.refusal.proofs.VerdictLaws.{judged}
 use Rattle.header.proofs.number_verdict.Goals as goal

@@ -1,5 +1,4 @@
 -- `number_within` meets its contract.
-use borrow.Author.Rules.{rules}
 use Rattle.header.specs.Header.{number_within}
 use Rattle.header.proofs.number_within.Goals as goal
 

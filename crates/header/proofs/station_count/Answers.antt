@@ -1,5 +1,4 @@
 -- `station_count` meets its contract.
-use borrow.Author.Rules.{rules}
 use Rattle.header.specs.Header.{station_count}
 use Rattle.header.proofs.station_count.Goals as goal
 

@@ -1,5 +1,4 @@
 -- `station_number` meets its contract.
-use borrow.Author.Rules.{rules}
 use Rattle.header.specs.Header.{station_number}
 use Rattle.refusal.proofs.VerdictLaws.{judged}
 use Rattle.header.proofs.station_number.Goals as goal

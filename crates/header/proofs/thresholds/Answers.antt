@@ -1,5 +1,4 @@
 -- `thresholds` meets its contract.
-use borrow.Author.Rules.{rules}
 use Rattle.header.specs.Header.{thresholds}
 use Rattle.header.proofs.thresholds.Goals as goal
 

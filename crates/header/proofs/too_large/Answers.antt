@@ -1,5 +1,4 @@
 -- `too_large` meets its contract. A byte is below 2 to the power 8.
-use borrow.Author.Rules.{rules}
 use mathlib.Core.Path.{sym}
 use native.Mathlib.Omega.{arith}
 use Rattle.line.specs.Marks.{mark_beyond}

@@ -1,5 +1,4 @@
 -- `width` meets its contract.
-use borrow.Author.Rules.{rules}
 use Rattle.header.specs.Header.{width}
 use Rattle.header.proofs.width.Goals as goal
 

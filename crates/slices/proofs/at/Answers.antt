@@ -1,5 +1,4 @@
 -- `at` meets its contract: past the end the definition reads 0.
-use borrow.Author.Rules.{rules}
 use mathlib.Core.Path.{refl, sym}
 use lib.ListN.{get_or-eq_default}
 use Rattle.slices.proofs.at.Goals as goal

@@ -1,10 +1,7 @@
 -- `fill` meets its contract. The loop's invariant: the first p bytes are b.
-use borrow.Author.Rules.{rules}
-use Prim.Native.Nat.{◌≤◌, ◌-◌}
 use mathlib.Core.Path.{◌≡◌, refl, ◌∙◌}
 use native.Mathlib.Omega.{arith}
 use lib.ListN.{length}
-use Rattle.line.specs.Writing.{over}
 use Rattle.line.proofs.WritingLaws.{over_none, over_length, front_turn, over_all}
 use Rattle.slices.proofs.fill.Goals as goal
 

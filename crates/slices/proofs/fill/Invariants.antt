@@ -1,11 +1,8 @@
 -- `fill` meets its contract. The loop's invariant: the first p bytes are b.
-use borrow.Author.Rules.{rules}
 use Prim.Native.Nat.{◌≤◌, ◌-◌}
-use mathlib.Core.Path.{◌≡◌, refl, ◌∙◌}
-use native.Mathlib.Omega.{arith}
+use mathlib.Core.Path.{◌≡◌}
 use lib.ListN.{length}
 use Rattle.line.specs.Writing.{over}
-use Rattle.line.proofs.WritingLaws.{over_none, over_length, front_turn, over_all}
 use Rattle.slices.proofs.fill.Given as goal
 
 abbrev pub invariant-loop-p : goal.invariant-loop-p

@@ -1,5 +1,4 @@
 -- `field` meets its contract.
-use borrow.Author.Rules.{rules}
 use Rattle.text.proofs.LaidLaws.{puts_then}
 use Rattle.text.proofs.field.Goals as goal
 

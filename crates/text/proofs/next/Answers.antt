@@ -1,5 +1,4 @@
 -- `next` meets its contract: no place comes after the last.
-use borrow.Author.Rules.{rules}
 use mathlib.Core.Path.{◌≡◌, sym, ◌∙◌}
 use native.Mathlib.Omega.{arith}
 use Rattle.text.specs.Laid.{last_place}

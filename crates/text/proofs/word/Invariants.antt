@@ -1,10 +1,7 @@
 -- `word` meets its contract. The loop's invariant: the first i bytes are put.
-use borrow.Author.Rules.{rules}
 use Prim.Native.Nat.{◌≤◌, ◌-◌}
-use native.Mathlib.Omega.{arith}
 use lib.ListN.{length, take}
 use Rattle.text.specs.Laid.{Puts}
-use Rattle.text.proofs.LaidLaws.{puts_none, puts_turn, puts_all, puts_length}
 use Rattle.text.proofs.word.Given as goal
 
 abbrev pub invariant-loop-i : goal.invariant-loop-i

@@ -1,5 +1,4 @@
 -- `Line::exchange_len` meets its contract: the product of bytes fits.
-use borrow.Author.Rules.{rules}
 use native.Mathlib.Omega.{arith}
 use Rattle.line.proofs.LineLaws.{product_fits}
 use Rattle.line.proofs.Line.exchange_len.Goals as goal

@@ -1,5 +1,4 @@
 -- `Line::has_round` meets its contract.
-use borrow.Author.Rules.{rules}
 use native.Mathlib.Omega.{arith}
 use mathlib.Core.Path.{sym}
 use Rattle.line.proofs.LineLaws.{product_fits, round_large, round_short, round_left}

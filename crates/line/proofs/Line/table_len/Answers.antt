@@ -1,5 +1,4 @@
 -- `Line::table_len` meets its contract: the products fit, and `rounds` gives the first factor.
-use borrow.Author.Rules.{rules}
 use native.Mathlib.Omega.{arith}
 use native.Mathlib.Nat.{mul-le-mul}
 use Rattle.line.proofs.LineLaws.{product_fits}

@@ -1,5 +1,4 @@
 -- `Line::tables_len` meets its contract: the product fits.
-use borrow.Author.Rules.{rules}
 use native.Mathlib.Omega.{arith}
 use native.Mathlib.Nat.{mul-le-mul}
 use Rattle.line.proofs.LineLaws.{product_fits}

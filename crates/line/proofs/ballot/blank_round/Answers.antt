@@ -1,5 +1,4 @@
 -- `ballot::blank_round` meets its contract, by the laws of `blank_round` at each arm.
-use borrow.Author.Rules.{rules}
 use mathlib.Core.Path.{sym, ◌∙◌}
 use Rattle.line.proofs.BallotLaws.{blank_round_blank, blank_round_other}
 use Rattle.line.proofs.ballot.blank_round.Goals as goal

@@ -1,5 +1,4 @@
 -- `ballot::read_first` meets its contract: a round for bits alone.
-use borrow.Author.Rules.{rules}
 use Rattle.line.specs.Ballot.{read_first}
 use Rattle.line.proofs.ballot.read_first.Goals as goal
 

@@ -1,5 +1,4 @@
 -- `ballot::read_king` meets its contract: a round for bits alone.
-use borrow.Author.Rules.{rules}
 use Rattle.line.specs.Ballot.{read_king}
 use Rattle.line.proofs.ballot.read_king.Goals as goal
 

@@ -1,5 +1,4 @@
 -- `ballot::read_second` meets its contract: a round for bits and blanks.
-use borrow.Author.Rules.{rules}
 use Rattle.line.specs.Ballot.{read_second}
 use Rattle.line.proofs.ballot.read_second.Goals as goal
 

@@ -1,5 +1,4 @@
 -- `ballot::read_sender` meets its contract: a round for bits alone.
-use borrow.Author.Rules.{rules}
 use Rattle.line.specs.Ballot.{read_sender}
 use Rattle.line.proofs.ballot.read_sender.Goals as goal
 

@@ -1,5 +1,4 @@
 -- `marks::is_marked` meets its contract. A number of 32 bits has no bit above them.
-use borrow.Author.Rules.{rules}
 use mathlib.Core.Path.{refl, sym}
 use native.Mathlib.Omega.{arith}
 use Rattle.line.specs.Marks.{marked}

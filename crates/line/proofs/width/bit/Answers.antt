@@ -1,5 +1,4 @@
 -- `width::bit` meets its contract. A byte has no bit from 8 on.
-use borrow.Author.Rules.{rules}
 use mathlib.Core.Path.{refl, sym}
 use native.Mathlib.Omega.{arith}
 use Rattle.line.specs.Width.{bit_of}

@@ -1,5 +1,4 @@
 -- `Cause::number` meets its contract, cause by cause.
-use borrow.Author.Rules.{rules}
 use Rattle.refusal.proofs.cause.Cause.number.Goals as goal
 
 pub returns-in-SheetForm : goal.returns-in-SheetForm

@@ -1,5 +1,4 @@
 -- `Verdict::or_else` meets its contract, case by case.
-use borrow.Author.Rules.{rules}
 use Rattle.refusal.proofs.VerdictLaws.{judged}
 use Rattle.refusal.proofs.cause.Verdict.or_else.Goals as goal
 
