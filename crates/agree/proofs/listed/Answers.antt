@@ -1,5 +1,4 @@
 -- `listed` meets its contract: its buffers are long enough for every sheet.
-use borrow.Author.Rules.{rules}
 use Prim.Native.Nat.{ℕ, ◌≤◌}
 use mathlib.Core.Path.{sym}
 use native.Mathlib.Omega.{arith}
