@@ -1,6 +1,6 @@
 -- What an argument's bytes are: a number in decimal, or something else.
-use Rattle.std.specs.Prelude.{ℕ, zero, suc, ◌+◌, ◌-◌, ◌*◌, min, Bool, ◌&&◌, List, leb, length, get_or}
-use Rattle.line.specs.Count.{if◌then◌else◌, all}
+use Rattle.std.specs.Prelude.{ℕ, zero, suc, ◌+◌, ◌-◌, ◌*◌, min, Bool, ◌&&◌, List, leb, length, get_or, if◌then◌else◌}
+use Rattle.line.specs.Count.{all}
 use Rattle.argument.specs.declared.Argument.{Argument}
 use Rattle.argument.specs.declared.Argument.TheVariants.{Number, Other}
 

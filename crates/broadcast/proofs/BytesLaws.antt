@@ -5,7 +5,7 @@ use mathlib.Core.Bool.{Bool, true, false}
 use mathlib.Core.List.{List}
 use native.Mathlib.Omega.{arith}
 use lib.ListN.{length, get_or}
-use Rattle.line.specs.Count.{if◌then◌else◌}
+use Rattle.std.specs.Prelude.{if◌then◌else◌}
 use Rattle.line.specs.Line.{Fits, from_0, rounds, table_length, outcome_size, outcomes_length, place}
 use Rattle.line.specs.Marks.{marked}
 use Rattle.line.proofs.CountLaws.{if_true, if_false, count_le}

@@ -3,7 +3,7 @@ use Prim.Native.Nat.{ℕ, ◌+◌, ◌≤◌, ◌<◌}
 use mathlib.Core.Path.{◌≡◌, refl, ap}
 use mathlib.Core.Bool.{Bool, true, false, ◌&&◌}
 use lib.Dec.{ltb, eqb}
-use Rattle.line.specs.Count.{if◌then◌else◌}
+use Rattle.std.specs.Prelude.{if◌then◌else◌}
 use Rattle.line.specs.Ballot.{read_sender, read_king, is_garbled}
 use Rattle.line.proofs.CountLaws.{count_zero, count_next, count_le, count_one, count_same}
 use Rattle.broadcast.specs.Exchange.{Row, tally, firsts, seconds, z_of, y_of}

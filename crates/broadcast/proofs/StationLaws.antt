@@ -7,7 +7,7 @@ use native.Mathlib.Omega.{arith}
 use native.Mathlib.Numerals.{add-one}
 use lib.Dec.{eqb}
 use borrow.Author.Tests.{eqb-true}
-use Rattle.line.specs.Count.{if◌then◌else◌}
+use Rattle.std.specs.Prelude.{if◌then◌else◌}
 use Rattle.line.specs.Line.{rounds}
 use Rattle.line.specs.Ballot.{silence, sender_value}
 use Rattle.broadcast.specs.Exchange.{Setting, Row, sends, grade_of, first_row, z, second_row, y, grade}

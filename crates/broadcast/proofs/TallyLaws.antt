@@ -1,5 +1,6 @@
 -- Laws of what one station does in an exchange and at the king's word. No other module of this crate opens these definitions, but for the laws
 -- that two rows with the same bytes are taken alike (RowLaws). Assumes nothing.
+use Rattle.std.specs.Prelude.{if◌then◌else◌}
 use Prim.Native.Nat.{ℕ, zero, suc, ◌+◌, ◌-◌, ◌≤◌, ◌<◌}
 use mathlib.Core.Path.{◌≡◌, refl, sym, ap, ◌∙◌}
 use mathlib.Core.Bool.{Bool, true, false}
@@ -8,7 +9,7 @@ use native.Mathlib.Omega.{arith}
 use native.Mathlib.Nat.{eq-zero-or-pos}
 use lib.Dec.{eqb, ltb}
 use borrow.Author.Tests.{eqb-true, eqb-false, lt-ltb, le-ltb, le-leb, lt-leb, eq-eqb, ne_eqb}
-use Rattle.line.specs.Count.{if◌then◌else◌, count}
+use Rattle.line.specs.Count.{count}
 use Rattle.line.specs.Ballot.{blank, first_value, second_value, read_king, king_value}
 use Rattle.line.specs.declared.ballot.Ballot.{Ballot}
 use Rattle.line.proofs.CountLaws.{if_true, if_false, le_or_lt, count_zero, count_next, count_le, count_same, count_none, cover, mono, disjoint}

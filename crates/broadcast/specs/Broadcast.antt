@@ -1,6 +1,5 @@
 -- The broadcast with extended validity (document 01, "The broadcast"; document 02, request 2; source 001, Protocol 2 with document 01's kings and phases).
-use Rattle.std.specs.Prelude.{ℕ, zero, suc, ◌+◌, ◌-◌, ◌*◌, ◌/◌, ◌%◌, Bool, true, eqb}
-use Rattle.line.specs.Count.{if◌then◌else◌}
+use Rattle.std.specs.Prelude.{ℕ, zero, suc, ◌+◌, ◌-◌, ◌*◌, ◌/◌, ◌%◌, Bool, true, eqb, if◌then◌else◌}
 use Rattle.line.specs.Ballot.{silence, sender_value, read_king, king_value}
 use Rattle.line.specs.declared.ballot.Ballot.{Ballot}
 use Rattle.broadcast.specs.Exchange.{Setting, sends, z, y, grade, flag_of}

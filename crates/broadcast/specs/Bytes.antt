@@ -1,6 +1,5 @@
 -- Tables, logs and outcomes as lists of bytes (document 01, "Names", "The graded exchange" and "The broadcast"; document 02, request 4).
-use Rattle.std.specs.Prelude.{ℕ, zero, suc, ◌+◌, ◌/◌, ◌%◌, List, [], ◌∷◌, eqb}
-use Rattle.line.specs.Count.{if◌then◌else◌}
+use Rattle.std.specs.Prelude.{ℕ, zero, suc, ◌+◌, ◌/◌, ◌%◌, List, [], ◌∷◌, eqb, if◌then◌else◌}
 use Rattle.line.specs.Line.{from_0, table_length, outcome_size, outcomes_length, place}
 use Rattle.line.specs.Marks.{marked}
 use Rattle.broadcast.specs.Exchange.{Setting, y, grade, flag_of}

@@ -1,6 +1,6 @@
 -- The graded exchange (document 01, "The graded exchange"; document 02, requests 2 and 6; source 001, Protocol 1).
-use Rattle.std.specs.Prelude.{ℕ, ◌+◌, ◌-◌, Bool, leb, ltb, eqb}
-use Rattle.line.specs.Count.{if◌then◌else◌, count}
+use Rattle.std.specs.Prelude.{ℕ, ◌+◌, ◌-◌, Bool, leb, ltb, eqb, if◌then◌else◌}
+use Rattle.line.specs.Count.{count}
 use Rattle.line.specs.Ballot.{blank, first_value, second_value}
 
 -- ---- at one station

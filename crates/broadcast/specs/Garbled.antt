@@ -1,6 +1,6 @@
 -- Which rounds had a garbled ballot, at one station and in a run (document 02, request 4).
-use Rattle.std.specs.Prelude.{ℕ, suc, ◌+◌, Bool, ◌&&◌, ltb}
-use Rattle.line.specs.Count.{if◌then◌else◌, count}
+use Rattle.std.specs.Prelude.{ℕ, suc, ◌+◌, Bool, ◌&&◌, ltb, if◌then◌else◌}
+use Rattle.line.specs.Count.{count}
 use Rattle.line.specs.Line.{rounds}
 use Rattle.line.specs.Ballot.{read_sender, read_first, read_second, read_king, is_garbled}
 use Rattle.line.specs.declared.ballot.Ballot.{Ballot}

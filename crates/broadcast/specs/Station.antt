@@ -1,6 +1,5 @@
 -- One station as an automaton (document 01, "One station"; document 02, request 4).
-use Rattle.std.specs.Prelude.{ℕ, zero, suc, ◌+◌, List, eqb, get_or}
-use Rattle.line.specs.Count.{if◌then◌else◌}
+use Rattle.std.specs.Prelude.{ℕ, zero, suc, ◌+◌, List, eqb, get_or, if◌then◌else◌}
 use Rattle.line.specs.Line.{rounds}
 use Rattle.line.specs.Ballot.{blank, silence, sender_value, read_king}
 use Rattle.broadcast.specs.Exchange.{Row, seconds, z_of, y_of, grade_of, flag_of}

@@ -1,4 +1,5 @@
 -- The stations are followed as the rules have it: a round more, and before the first. Assumes nothing.
+use Rattle.std.specs.Prelude.{if◌then◌else◌}
 use Prim.Native.Nat.{ℕ, suc, ◌+◌, ◌*◌, ◌≤◌, ◌<◌}
 use mathlib.Core.Path.{◌≡◌, refl, sym, ◌∙◌}
 use mathlib.Core.Bool.{Bool, true, false, ◌&&◌, true≢false}
@@ -7,7 +8,7 @@ use native.Mathlib.Omega.{arith}
 use native.Mathlib.Numerals.{add-one}
 use native.Mathlib.Nat.{zero-mul}
 use lib.ListN.{length, get_or, get_or-replicate}
-use Rattle.line.specs.Count.{if◌then◌else◌, all}
+use Rattle.line.specs.Count.{all}
 use Rattle.line.specs.Line.{from_0, rounds, table_length, place, has_round}
 use Rattle.line.specs.Marks.{all_marks}
 use Rattle.line.specs.Writing.{Each}

@@ -1,11 +1,12 @@
 -- The marks that are put together are the set. Assumes nothing.
+use Rattle.std.specs.Prelude.{if◌then◌else◌}
 use Prim.Native.Nat.{ℕ, ◌+◌, ◌*◌, ◌<◌}
 use mathlib.Core.Path.{◌≡◌, refl, sym, ap, ◌∙◌}
 use mathlib.Core.Bool.{Bool, true, false, not, ◌&&◌}
 use mathlib.Core.List.{List, []}
 use native.Mathlib.Omega.{arith}
 use lib.ListN.{get_or}
-use Rattle.line.specs.Count.{if◌then◌else◌, all}
+use Rattle.line.specs.Count.{all}
 use Rattle.line.specs.Line.{rounds, outcome_size}
 use Rattle.line.specs.Marks.{marks_of}
 use Rattle.line.proofs.MarksLaws.{marks_same}

@@ -1,6 +1,6 @@
 -- What the private functions of the checker do: for their contracts, and no part of what the public call promises.
-use Rattle.std.specs.Prelude.{ℕ, suc, ◌+◌, ◌*◌, ◌<◌, ◌≤◌, ◌≡◌, Bool, ◌&&◌, not, List, eqb, get_or, replicate}
-use Rattle.line.specs.Count.{if◌then◌else◌, all}
+use Rattle.std.specs.Prelude.{ℕ, suc, ◌+◌, ◌*◌, ◌<◌, ◌≤◌, ◌≡◌, Bool, ◌&&◌, not, List, eqb, get_or, replicate, if◌then◌else◌}
+use Rattle.line.specs.Count.{all}
 use Rattle.line.specs.Line.{most_stations, from_0, place, outcome_size}
 use Rattle.line.specs.Ballot.{blank, sender_value}
 use Rattle.broadcast.specs.Exchange.{flag_of}

@@ -2,8 +2,7 @@
 // ends otherwise broke the rules. The place i of an array is the station counted i from 0.
 #![tactic(auto)]
 
-ghost use Rattle.std.specs.Prelude.{◌≡◌, ◌+◌, ◌*◌, ◌≤◌, ◌<◌, [], length};
-ghost use Rattle.line.specs.Count.{if◌then◌else◌};
+ghost use Rattle.std.specs.Prelude.{◌≡◌, ◌+◌, ◌*◌, ◌≤◌, ◌<◌, [], length, if◌then◌else◌};
 ghost use Rattle.line.specs.Line.{rounds, outcome_size, outcomes_length};
 ghost use Rattle.line.specs.Marks.{marks_of};
 ghost use Rattle.rules.specs.Rules.{broke};

@@ -1,6 +1,6 @@
 -- A round's bytes to one receiver, and how many of them are what is wanted of it. Stations are counted from 0. Bytes are laid out like a run table.
-use Rattle.std.specs.Prelude.{ℕ, ◌+◌, ◌*◌, ◌≤◌, ◌<◌, ◌≡◌, List, ◌&&◌, eqb, ltb, leb, length, get_or}
-use Rattle.line.specs.Count.{if◌then◌else◌, count}
+use Rattle.std.specs.Prelude.{ℕ, ◌+◌, ◌*◌, ◌≤◌, ◌<◌, ◌≡◌, List, ◌&&◌, eqb, ltb, leb, length, get_or, if◌then◌else◌}
+use Rattle.line.specs.Count.{count}
 use Rattle.line.specs.Line.{has_round}
 
 -- byte i is the one from station i to j, in the round that starts at `start`

@@ -1,4 +1,5 @@
 -- Laws of comparing: a sender's bytes all equal what is said where as many are equal as there are receivers. Assumes nothing.
+use Rattle.std.specs.Prelude.{if◌then◌else◌}
 use Prim.Native.Nat.{ℕ, ◌+◌, ◌-◌, ◌*◌, ◌≤◌, ◌<◌}
 use mathlib.Core.Path.{◌≡◌, refl, sym, ◌∙◌}
 use mathlib.Core.Bool.{Bool, true, false, true≢false}
@@ -8,7 +9,7 @@ use native.Mathlib.Omega.{arith}
 use lib.Dec.{eqb}
 use lib.ListN.{length, get_or}
 use borrow.Author.Tests.{eq-eqb, ne_eqb}
-use Rattle.line.specs.Count.{if◌then◌else◌, count, all}
+use Rattle.line.specs.Count.{count, all}
 use Rattle.line.specs.Line.{has_round}
 use Rattle.line.proofs.CountLaws.{le_or_lt, count_zero, count_hit, count_miss, count_le, all_true, all_hold, all_count}
 use Rattle.compare.specs.Compare.{sends, unless_other, kept_on, all_are, equal_bytes}

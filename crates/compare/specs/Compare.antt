@@ -1,6 +1,6 @@
 -- A round's bytes from one sender beside what it should send. Stations are counted from 0. Bytes are laid out like a run table.
-use Rattle.std.specs.Prelude.{ℕ, ◌+◌, ◌*◌, Bool, List, eqb, length, get_or}
-use Rattle.line.specs.Count.{if◌then◌else◌, count, all}
+use Rattle.std.specs.Prelude.{ℕ, ◌+◌, ◌*◌, Bool, List, eqb, length, get_or, if◌then◌else◌}
+use Rattle.line.specs.Count.{count, all}
 use Rattle.line.specs.Line.{has_round}
 
 -- in the round that starts at `start`, station i sends b to every receiver

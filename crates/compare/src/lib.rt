@@ -1,8 +1,7 @@
 // What the stations send in a round, beside what they should: a sender's bytes to all stand side by side in the log.
 #![tactic(auto)]
 
-ghost use Rattle.std.specs.Prelude.{◌≡◌, ◌+◌, ◌*◌, ◌≤◌, length};
-ghost use Rattle.line.specs.Count.{if◌then◌else◌};
+ghost use Rattle.std.specs.Prelude.{◌≡◌, ◌+◌, ◌*◌, ◌≤◌, length, if◌then◌else◌};
 ghost use Rattle.line.specs.Writing.{Each};
 ghost use Rattle.compare.specs.Compare.{equal_bytes, all_are, unless_other, kept_on};
 

@@ -1,4 +1,5 @@
 -- Laws of the exchange had alone: of its inputs, of its two rounds and outcomes, and of its judgement. Assumes nothing.
+use Rattle.std.specs.Prelude.{if◌then◌else◌}
 use Prim.Native.Nat.{ℕ, ◌+◌, ◌-◌, ◌*◌, ◌≤◌, ◌<◌}
 use mathlib.Core.Path.{◌≡◌, refl, sym, ap, ◌∙◌}
 use mathlib.Core.Bool.{Bool, true, false, not, ◌&&◌, true≢false}
@@ -8,7 +9,7 @@ use native.Mathlib.Nat.{zero-mul, one-mul, two-mul, add-mul, mul-le-mul}
 use lib.Dec.{ltb}
 use borrow.Author.Tests.{ltb-false, eq-eqb}
 use lib.ListN.{length, get_or}
-use Rattle.line.specs.Count.{if◌then◌else◌, count}
+use Rattle.line.specs.Count.{count}
 use Rattle.line.specs.Line.{exchange_length, outcomes_length, place}
 use Rattle.line.specs.Marks.{marked}
 use Rattle.line.specs.Writing.{over, Each}

@@ -1,7 +1,6 @@
 -- The line that tells the checker's answer: the word `broke` and the numbers of the stations in the set, in order, or, as in a listing, `refused` and the number. One space
 -- before each number, a newline at the end.
-use Rattle.std.specs.Prelude.{ℕ, zero, suc, ◌+◌, List, [], ◌∷◌, ◌++◌}
-use Rattle.line.specs.Count.{if◌then◌else◌}
+use Rattle.std.specs.Prelude.{ℕ, zero, suc, ◌+◌, List, [], ◌∷◌, ◌++◌, if◌then◌else◌}
 use Rattle.line.specs.Line.{most_stations}
 use Rattle.line.specs.Marks.{marked}
 use Rattle.refusal.specs.Cause.{number}

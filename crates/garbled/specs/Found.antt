@@ -1,6 +1,5 @@
 -- Which receivers get a garbled ballot that they expect, in one round. Stations are counted from 0. Bytes are laid out like a run table.
-use Rattle.std.specs.Prelude.{ℕ, zero, suc, Bool, ◌&&◌, List, ltb, eqb, length, get_or}
-use Rattle.line.specs.Count.{if◌then◌else◌}
+use Rattle.std.specs.Prelude.{ℕ, zero, suc, Bool, ◌&&◌, List, ltb, eqb, length, get_or, if◌then◌else◌}
 use Rattle.line.specs.Line.{has_round}
 use Rattle.line.specs.Ballot.{blank, silence}
 use Rattle.line.specs.Marks.{marked}

@@ -1,8 +1,7 @@
 // The garbled ballots of a round, at all receivers at once. The place j of an array is the station counted j from 0; places beyond n are of no station, and open.
 #![tactic(auto)]
 
-ghost use Rattle.std.specs.Prelude.{◌≡◌, ◌+◌, ◌-◌, ◌*◌, ◌≤◌, true, ltb, length, get_or};
-ghost use Rattle.line.specs.Count.{if◌then◌else◌};
+ghost use Rattle.std.specs.Prelude.{◌≡◌, ◌+◌, ◌-◌, ◌*◌, ◌≤◌, true, ltb, length, get_or, if◌then◌else◌};
 ghost use Rattle.line.specs.Line.{has_round};
 ghost use Rattle.line.specs.Writing.{Each};
 ghost use Rattle.broadcast.specs.Broadcast.{speaks};

@@ -1,4 +1,5 @@
 -- Laws of the generated tables: their bytes, and that the state runs on from one bit's table to the next. Assumes nothing.
+use Rattle.std.specs.Prelude.{if◌then◌else◌}
 use Prim.Native.Nat.{ℕ, zero, suc, ◌+◌, ◌*◌, ◌/◌, ◌%◌, ◌≤◌, ◌<◌}
 use mathlib.Core.Path.{◌≡◌, refl, sym, ap, ◌∙◌}
 use mathlib.Core.Bool.{Bool, true, false}
@@ -10,7 +11,7 @@ use lib.Dec.{eqb}
 use lib.ListN.{length, get_or}
 use lib.Seq.{ext_get_or}
 use borrow.Author.Tests.{eqb-false, eq-eqb, ne_eqb, lt-ltb}
-use Rattle.line.specs.Count.{if◌then◌else◌, count}
+use Rattle.line.specs.Count.{count}
 use Rattle.line.specs.Line.{rounds, table_length, place}
 use Rattle.line.specs.Marks.{marked}
 use Rattle.line.specs.Width.{bits, tables_length, part_of}

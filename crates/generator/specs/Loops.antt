@@ -1,6 +1,5 @@
 -- What the private functions do: for their contracts, and no part of what the public calls promise.
-use Rattle.std.specs.Prelude.{ℕ, suc, ◌%◌, ◌<◌, ◌≤◌, ◌≡◌, Bool, List, length, get_or}
-use Rattle.line.specs.Count.{if◌then◌else◌}
+use Rattle.std.specs.Prelude.{ℕ, suc, ◌%◌, ◌<◌, ◌≤◌, ◌≡◌, Bool, List, length, get_or, if◌then◌else◌}
 use Rattle.line.specs.Ballot.{silence}
 use Rattle.xorshift.specs.State.{state_after}
 use Rattle.generator.specs.Tables.{ballot, steps_before, byte_at}

@@ -1,6 +1,5 @@
 -- What the generator's calls promise, for all arguments.
-use Rattle.std.specs.Prelude.{ℕ, ◌%◌, ◌≡◌, Bool, ◌&&◌, List, ltb, eqb, length}
-use Rattle.line.specs.Count.{if◌then◌else◌}
+use Rattle.std.specs.Prelude.{ℕ, ◌%◌, ◌≡◌, Bool, ◌&&◌, List, ltb, eqb, length, if◌then◌else◌}
 use Rattle.refusal.specs.Cause.{Judged, written}
 use Rattle.refusal.specs.declared.cause.Verdict.{Verdict}
 use Rattle.layout.specs.Layout.{header}

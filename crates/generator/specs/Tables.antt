@@ -1,7 +1,7 @@
 -- The generated run tables (document 02, request 7), by their places. A place of the bits' tables, one after another, tells its sender (`from_at` of crate selection),
 -- counted from 0.
-use Rattle.std.specs.Prelude.{ℕ, suc, ◌*◌, ◌%◌, Bool, List, eqb}
-use Rattle.line.specs.Count.{if◌then◌else◌, count}
+use Rattle.std.specs.Prelude.{ℕ, suc, ◌*◌, ◌%◌, Bool, List, eqb, if◌then◌else◌}
+use Rattle.line.specs.Count.{count}
 use Rattle.line.specs.Line.{table_length}
 use Rattle.line.specs.Marks.{marked}
 use Rattle.line.specs.Width.{tables_length}

@@ -1,6 +1,5 @@
 // The rows of a table, each a sender's n bytes in a round, one after another.
-ghost use Rattle.std.specs.Prelude.{◌≡◌, ◌+◌, ◌%◌, ◌≤◌, ◌<◌, length};
-ghost use Rattle.line.specs.Count.{if◌then◌else◌};
+ghost use Rattle.std.specs.Prelude.{◌≡◌, ◌+◌, ◌%◌, ◌≤◌, ◌<◌, length, if◌then◌else◌};
 ghost use Rattle.line.specs.Writing.{over};
 ghost use Rattle.xorshift.specs.State.{state_after};
 ghost use Rattle.generator.specs.Tables.{ballot};

@@ -1,6 +1,5 @@
 -- The chain of a sheet's records (document 01, "The run sheet" and causes 9 and 10), as the sequence of the indices that it reaches.
-use Rattle.std.specs.Prelude.{ℕ, zero, suc, ◌≤◌, ◌<◌, ◌≡◌, Bool, ◌&&◌, List, leb}
-use Rattle.line.specs.Count.{if◌then◌else◌}
+use Rattle.std.specs.Prelude.{ℕ, zero, suc, ◌≤◌, ◌<◌, ◌≡◌, Bool, ◌&&◌, List, leb, if◌then◌else◌}
 use Rattle.layout.specs.Layout.{first, records, next}
 
 -- the index of a record: from 1 to k

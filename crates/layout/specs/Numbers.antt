@@ -1,6 +1,5 @@
 -- A record's numbers together, as the code hands them on.
-use Rattle.std.specs.Prelude.{ℕ, ◌+◌, List}
-use Rattle.line.specs.Count.{if◌then◌else◌}
+use Rattle.std.specs.Prelude.{ℕ, ◌+◌, List, if◌then◌else◌}
 use Rattle.layout.specs.declared.Record.{Record}
 use Rattle.layout.specs.Layout.{byte, two, start}
 use Rattle.layout.specs.Chain.{is_record}

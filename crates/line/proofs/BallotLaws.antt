@@ -6,7 +6,7 @@ use mathlib.Core.Logic.{◌⊎◌, inl, inr}
 use native.Mathlib.Omega.{arith}
 use lib.Dec.{leb, ltb, eqb}
 use borrow.Author.Tests.{le-leb, lt-leb, leb-true, leb-false, lt-ltb, le-ltb, eqb-true, eqb-false, eq-eqb, ne_eqb}
-use Rattle.line.specs.Count.{if◌then◌else◌}
+use Rattle.std.specs.Prelude.{if◌then◌else◌}
 use Rattle.line.specs.Ballot.{blank, silence, bit_round, blank_round, read_first, read_second, read_sender, read_king, is_garbled, bit_or, first_value, second_value, sender_value, king_value}
 use Rattle.line.specs.declared.ballot.Ballot.TheVariants.{Bit, Blank, Silence, Garbled}
 use Rattle.line.proofs.CountLaws.{if_true, if_false, le_or_lt}

@@ -1,4 +1,5 @@
 -- Laws of a choice, of an order's two cases, and of counting. Assumes nothing.
+use Rattle.std.specs.Prelude.{if◌then◌else◌}
 use Prim.Native.Nat.{ℕ, zero, suc, ◌+◌, ◌≤◌, ◌<◌}
 use mathlib.Core.Path.{◌≡◌, refl, sym, ◌∙◌}
 use mathlib.Core.Bool.{Bool, true, false, not, ◌&&◌, true≢false}
@@ -9,7 +10,7 @@ use native.Mathlib.Nat.{le_refl, eq-or-lt_of_le, le_of_suc-le-suc}
 use native.Mathlib.Decide.{le_ind}
 use lib.Dec.{leb, eqb}
 use borrow.Author.Tests.{leb-true, leb-false, eqb-true, eqb-false, eq-eqb, ne_eqb}
-use Rattle.line.specs.Count.{if◌then◌else◌, count, all}
+use Rattle.line.specs.Count.{count, all}
 
 pub if_true : {A : Type 0} {b : Bool} (u v : A) → b ≡ true → if b then u else v ≡ u
 if_true u v e = rw e

@@ -1,4 +1,5 @@
 -- Laws of marks. Assumes nothing.
+use Rattle.std.specs.Prelude.{if◌then◌else◌}
 use Prim.Native.Nat.{ℕ, zero, suc, ◌+◌, ◌-◌, ◌*◌, ◌/◌, ◌%◌, ◌^◌, ◌≤◌, ◌<◌}
 use mathlib.Core.Path.{◌≡◌, refl, sym, ap, subst, ◌∙◌}
 use mathlib.Core.Bool.{Bool, true, false, not}
@@ -10,7 +11,7 @@ use lib.Dec.{leb, eqb}
 use lib.Pow.{pow_pos, pow_mono, shr-shr, mod-pow-add}
 use lib.Arith.{bin_ind, digits_lt, digits_div, digits_mod}
 use borrow.Author.Tests.{leb-true, leb-false, le-leb, lt-leb, eq-eqb}
-use Rattle.line.specs.Count.{if◌then◌else◌, count}
+use Rattle.line.specs.Count.{count}
 use Rattle.line.specs.Line.{most_stations}
 use Rattle.line.specs.Marks.{marked, all_marks, mark_beyond, faults, marks_of}
 use Rattle.line.proofs.CountLaws.{count_not, count_more}

@@ -1,7 +1,6 @@
 -- The ballot byte and its readings (document 01, "Names", "The graded exchange" and "The broadcast"; document 02, requests 2 and 4).
 -- Each kind of round has a reading of its own, which says what a received byte was, and a value that its steps make of it.
-use Rattle.std.specs.Prelude.{ℕ, Bool, true, false, leb, eqb}
-use Rattle.line.specs.Count.{if◌then◌else◌}
+use Rattle.std.specs.Prelude.{ℕ, Bool, true, false, leb, eqb, if◌then◌else◌}
 use Rattle.line.specs.declared.ballot.Ballot.{Ballot}
 use Rattle.line.specs.declared.ballot.Ballot.TheVariants.{Bit, Blank, Silence, Garbled}
 

@@ -1,10 +1,5 @@
--- A choice by a test, how many stations pass a test, and whether all do.
-use Rattle.std.specs.Prelude.{ℕ, zero, suc, ◌+◌, Bool, true, false, ◌&&◌}
-
-infix 5 if◌then◌else◌
-abbrev pub if◌then◌else◌ : {A : Type 0} → Bool → A → A → A
-if true then a else b = a
-if false then a else b = b
+-- How many stations pass a test, and whether all do.
+use Rattle.std.specs.Prelude.{ℕ, zero, suc, ◌+◌, Bool, true, false, ◌&&◌, if◌then◌else◌}
 
 -- how many of the stations 0 to n - 1 pass the test p
 unfoldable pub count : ℕ → (ℕ → Bool) → ℕ

@@ -1,6 +1,6 @@
 -- Who is bad (document 01, "Names" and "The run sheet").
-use Rattle.std.specs.Prelude.{ℕ, zero, suc, ◌+◌, ◌*◌, ◌/◌, ◌%◌, ◌^◌, Bool, leb, eqb}
-use Rattle.line.specs.Count.{if◌then◌else◌, count}
+use Rattle.std.specs.Prelude.{ℕ, zero, suc, ◌+◌, ◌*◌, ◌/◌, ◌%◌, ◌^◌, Bool, leb, eqb, if◌then◌else◌}
+use Rattle.line.specs.Count.{count}
 
 -- "the marks, bit i−1 for station i": i is counted from 0 here. "A station is bad if marked, otherwise good."
 unfoldable pub marked : ℕ → ℕ → Bool

@@ -1,6 +1,6 @@
 -- The statements that proofs/Theorems.antt proves, each under the same name in lower case.
-use Rattle.std.specs.Prelude.{ℕ, ◌+◌, ◌-◌, ◌*◌, ◌^◌, ◌≤◌, ◌<◌, ◌≡◌, Bool, true, false, not, ◌&&◌, leb, ltb, eqb}
-use Rattle.line.specs.Count.{if◌then◌else◌, count}
+use Rattle.std.specs.Prelude.{ℕ, ◌+◌, ◌-◌, ◌*◌, ◌^◌, ◌≤◌, ◌<◌, ◌≡◌, Bool, true, false, not, ◌&&◌, leb, ltb, eqb, if◌then◌else◌}
+use Rattle.line.specs.Count.{count}
 use Rattle.line.specs.Line.{most_stations, Fits, table_length, place, largest_table}
 use Rattle.line.specs.Marks.{marked, mark_beyond, faults, marks_of}
 use Rattle.line.specs.Ballot.{blank, silence, read_sender, read_first, read_second, read_king, is_garbled, sender_value, first_value, second_value, king_value}

@@ -1,6 +1,5 @@
 -- Recipe numbers (document 02, request 5): how many bits a number has, and which part of a buffer is one bit's.
-use Rattle.std.specs.Prelude.{ℕ, ◌*◌, ◌/◌, ◌%◌, ◌^◌, List, eqb, take, drop}
-use Rattle.line.specs.Count.{if◌then◌else◌}
+use Rattle.std.specs.Prelude.{ℕ, ◌*◌, ◌/◌, ◌%◌, ◌^◌, List, eqb, take, drop, if◌then◌else◌}
 use Rattle.line.specs.Line.{largest_table, table_length}
 
 -- "a number of w bits, w from 1 to 8"

@@ -1,6 +1,5 @@
 // How a received ballot byte is read, by the kind of round that it came in, and what is made of a reading.
-ghost use Rattle.std.specs.Prelude.{◌≡◌};
-ghost use Rattle.line.specs.Count.{if◌then◌else◌};
+ghost use Rattle.std.specs.Prelude.{◌≡◌, if◌then◌else◌};
 ghost use Rattle.line.specs.Ballot.{bit_round, blank_round, read_sender, read_first, read_second, read_king, is_garbled, bit_or};
 
 use crate::Line;

@@ -1,6 +1,5 @@
 -- The lines of a listing, field by field (document 01, "Runs worked through"; document 02, requests 4 and 5).
-use Rattle.std.specs.Prelude.{ℕ, zero, suc, ◌+◌, List, [], ◌∷◌, eqb}
-use Rattle.line.specs.Count.{if◌then◌else◌}
+use Rattle.std.specs.Prelude.{ℕ, zero, suc, ◌+◌, List, [], ◌∷◌, eqb, if◌then◌else◌}
 use Rattle.line.specs.Line.{rounds}
 use Rattle.refusal.specs.Cause.{number}
 use Rattle.refusal.specs.declared.cause.Verdict.{Verdict}

@@ -1,4 +1,5 @@
 -- Laws of the rewritten sheet: what an accepted sheet reads as can be written, reads the same, and is written the same again. Assumes nothing.
+use Rattle.std.specs.Prelude.{if◌then◌else◌}
 use Prim.Native.Nat.{ℕ, ◌+◌, ◌/◌, ◌%◌, ◌≤◌, ◌<◌}
 use mathlib.Core.Path.{◌≡◌, refl, sym, ap, ◌∙◌}
 use mathlib.Core.Bool.{Bool, true, false, not, ◌&&◌}
@@ -7,7 +8,7 @@ use native.Mathlib.Omega.{arith}
 use lib.Dec.{eqb}
 use lib.ListN.{length, get_or, take}
 use borrow.Author.Tests.{le-ltb}
-use Rattle.line.specs.Count.{if◌then◌else◌, count}
+use Rattle.line.specs.Count.{count}
 use Rattle.line.specs.Line.{rounds}
 use Rattle.line.specs.Marks.{marked}
 use Rattle.line.specs.Ballot.{silence}

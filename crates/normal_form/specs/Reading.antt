@@ -1,6 +1,5 @@
 -- What the reader makes of a written sheet: "The reader gives the table back, with 255 at the unmarked senders".
-use Rattle.std.specs.Prelude.{ℕ, ◌<◌, ◌≡◌, List, length, get_or}
-use Rattle.line.specs.Count.{if◌then◌else◌}
+use Rattle.std.specs.Prelude.{ℕ, ◌<◌, ◌≡◌, List, length, get_or, if◌then◌else◌}
 use Rattle.line.specs.Marks.{marked}
 use Rattle.line.specs.Ballot.{silence}
 use Rattle.refusal.specs.declared.cause.Verdict.TheVariants.{Accepted}

@@ -9,7 +9,7 @@ use lib.Dec.{eqb, ltb}
 use lib.Arith.{digits_lt, digits_div, digits_mod}
 use lib.Pow.{mod-pow-add}
 use borrow.Author.Tests.{eqb-true, eqb-false, ltb-true, ltb-false, eq-eqb, ne_eqb}
-use Rattle.line.specs.Count.{if◌then◌else◌}
+use Rattle.std.specs.Prelude.{if◌then◌else◌}
 use Rattle.broadcast.specs.Exchange.{flag_of}
 use Rattle.line.specs.Width.{bit_of}
 use Rattle.line.proofs.WidthLaws.{bit_small}

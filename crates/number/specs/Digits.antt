@@ -1,6 +1,5 @@
 -- What w bits make together: a number, a smallest grade, a flag and a largest count.
-use Rattle.std.specs.Prelude.{ℕ, zero, suc, ◌+◌, ◌*◌, ◌^◌, eqb, ltb}
-use Rattle.line.specs.Count.{if◌then◌else◌}
+use Rattle.std.specs.Prelude.{ℕ, zero, suc, ◌+◌, ◌*◌, ◌^◌, eqb, ltb, if◌then◌else◌}
 
 -- the number whose bits 0 to w - 1 are d 0, d 1, ..: the sum of d b times 2^b
 unfoldable pub number_of : ℕ → (ℕ → ℕ) → ℕ

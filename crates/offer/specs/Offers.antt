@@ -1,6 +1,5 @@
 -- Offer and acceptance (document 02, request 8). What a row makes of a station, and what is refused of both, is crate station's and crate state's.
-use Rattle.std.specs.Prelude.{ℕ, ◌≡◌, Bool, ◌&&◌, not, List, [], ◌∷◌, eqb, length}
-use Rattle.line.specs.Count.{if◌then◌else◌}
+use Rattle.std.specs.Prelude.{ℕ, ◌≡◌, Bool, ◌&&◌, not, List, [], ◌∷◌, eqb, length, if◌then◌else◌}
 use Rattle.line.specs.Ballot.{silence}
 use Rattle.refusal.specs.Cause.{number, code, given, refused_if, ◌or_else◌}
 use Rattle.refusal.specs.declared.cause.Cause.TheVariants as cause

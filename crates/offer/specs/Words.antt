@@ -1,6 +1,5 @@
 -- An offer as a number of 64 bits, for C.
-use Rattle.std.specs.Prelude.{ℕ, ◌+◌, ◌*◌, ◌/◌, ◌%◌, ltb}
-use Rattle.line.specs.Count.{if◌then◌else◌}
+use Rattle.std.specs.Prelude.{ℕ, ◌+◌, ◌*◌, ◌/◌, ◌%◌, ltb, if◌then◌else◌}
 use Rattle.offer.specs.declared.Offer.{Offer}
 
 -- six bytes, the lowest first: round, value, z, grade and the count of garbled rounds, as in a state; then the ballot

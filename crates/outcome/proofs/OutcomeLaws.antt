@@ -8,7 +8,7 @@ use lib.Dec.{leb}
 use lib.ListN.{length, get_or}
 use lib.Seq.{ext_get_or}
 use borrow.Author.Tests.{leb-true, leb-false, le-leb}
-use Rattle.line.specs.Count.{if◌then◌else◌}
+use Rattle.std.specs.Prelude.{if◌then◌else◌}
 use Rattle.line.proofs.CountLaws.{if_true}
 use Rattle.line.specs.Line.{outcome_size, outcomes_length, largest_outcomes}
 use Rattle.line.specs.Marks.{marked}

@@ -1,6 +1,5 @@
 -- The outcomes' bytes, from the stations' values, grades and counts.
-use Rattle.std.specs.Prelude.{ℕ, ◌/◌, ◌%◌, Bool, List, leb, get_or}
-use Rattle.line.specs.Count.{if◌then◌else◌}
+use Rattle.std.specs.Prelude.{ℕ, ◌/◌, ◌%◌, Bool, List, leb, get_or, if◌then◌else◌}
 use Rattle.line.specs.Line.{outcome_size, largest_outcomes}
 use Rattle.line.specs.Marks.{marked}
 use Rattle.broadcast.specs.Exchange.{flag_of}

@@ -9,7 +9,7 @@ use native.Mathlib.Nat.{zero-mul, mul-zero, add-mul, div-lt_iff_lt-mul, div-add-
 use lib.Arith.{digits_div, digits_lt}
 use lib.ListN.{length, get_or, take, drop, length-append, length-drop, get_or-append}
 use lib.Seq.{length-take-le, get_or-take, get_or-drop}
-use Rattle.line.specs.Count.{if◌then◌else◌}
+use Rattle.std.specs.Prelude.{if◌then◌else◌}
 use Rattle.line.specs.Line.{has_round}
 use Rattle.line.specs.Marks.{marked}
 use Rattle.line.specs.Writing.{over}

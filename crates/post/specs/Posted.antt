@@ -1,6 +1,5 @@
 -- A round's ballots in the log (document 01, "The broadcast": "The rehearsal writes a log, laid out like the table."). Stations are counted from 0.
-use Rattle.std.specs.Prelude.{ℕ, ◌+◌, ◌*◌, ◌/◌, ◌<◌, ◌≡◌, false, ◌&&◌, List, length, get_or}
-use Rattle.line.specs.Count.{if◌then◌else◌}
+use Rattle.std.specs.Prelude.{ℕ, ◌+◌, ◌*◌, ◌/◌, ◌<◌, ◌≡◌, false, ◌&&◌, List, length, get_or, if◌then◌else◌}
 use Rattle.line.specs.Line.{has_round}
 use Rattle.line.specs.Marks.{marked}
 use Rattle.line.specs.Writing.{over}

@@ -1,7 +1,6 @@
 -- What the private functions of the reader do: for their contracts, and no part of what the public call promises.
-use Rattle.std.specs.Prelude.{ℕ, zero, suc, ◌+◌, ◌-◌, ◌*◌, ◌/◌, ◌%◌, ◌^◌, ◌≤◌, ◌<◌, ◌≡◌, Bool, List, leb, ltb, length, get_or, take, drop, set, replicate}
+use Rattle.std.specs.Prelude.{ℕ, zero, suc, ◌+◌, ◌-◌, ◌*◌, ◌/◌, ◌%◌, ◌^◌, ◌≤◌, ◌<◌, ◌≡◌, Bool, List, leb, ltb, length, get_or, take, drop, set, replicate, if◌then◌else◌}
 use Rattle.std.specs.Int.Bits.{bit_or}
-use Rattle.line.specs.Count.{if◌then◌else◌}
 use Rattle.line.specs.Line.{from_0, rounds, place}
 use Rattle.line.specs.Width as width
 use Rattle.line.specs.Marks.{marked}

@@ -11,7 +11,7 @@ use lib.Dec.{eqb}
 use lib.ListN.{length, get_or, take, drop}
 use lib.Seq.{ext_get_or}
 use borrow.Author.Tests.{eq-eqb, ne_eqb, eqb-true, eqb-false}
-use Rattle.line.specs.Count.{if◌then◌else◌}
+use Rattle.std.specs.Prelude.{if◌then◌else◌}
 use Rattle.line.specs.Line.{outcome_size, outcomes_length, table_length}
 use Rattle.line.specs.Marks.{marked}
 use Rattle.line.specs.Width.{bits, bit_of, tables_length, largest_tables, part_of}

@@ -1,6 +1,5 @@
 -- A bit's outcomes added to those of the bits below it (document 02, request 5), of any bytes. Station i is counted from 0.
-use Rattle.std.specs.Prelude.{ℕ, ◌+◌, ◌*◌, ◌/◌, ◌%◌, ◌^◌, List, eqb, length}
-use Rattle.line.specs.Count.{if◌then◌else◌}
+use Rattle.std.specs.Prelude.{ℕ, ◌+◌, ◌*◌, ◌/◌, ◌%◌, ◌^◌, List, eqb, length, if◌then◌else◌}
 use Rattle.line.specs.Line.{outcome_size}
 use Rattle.broadcast.specs.Station.{at}
 use Rattle.broadcast.specs.Bytes.{tabulate, pick}

@@ -1,6 +1,5 @@
 -- The bytes of a header and of a record as they are written.
-use Rattle.std.specs.Prelude.{ℕ, ◌/◌, ◌%◌, List, [], ◌∷◌, eqb}
-use Rattle.line.specs.Count.{if◌then◌else◌}
+use Rattle.std.specs.Prelude.{ℕ, ◌/◌, ◌%◌, List, [], ◌∷◌, eqb, if◌then◌else◌}
 use Rattle.layout.specs.Layout.{byte}
 
 -- "Two-byte and four-byte numbers are low byte first."

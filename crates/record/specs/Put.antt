@@ -1,6 +1,5 @@
 -- What the calls leave in a buffer.
-use Rattle.std.specs.Prelude.{ℕ, ◌+◌, List, leb, eqb, length}
-use Rattle.line.specs.Count.{if◌then◌else◌}
+use Rattle.std.specs.Prelude.{ℕ, ◌+◌, List, leb, eqb, length, if◌then◌else◌}
 use Rattle.text.specs.Laid.{laid}
 use Rattle.record.specs.Bytes.{header_bytes}
 

@@ -10,7 +10,7 @@ use native.Mathlib.Numerals.{add-one}
 use native.Mathlib.Nat.{mul_assoc, zero-mul, suc-mul, div-add-mod', div-lt_iff_lt-mul, mod-lt}
 use lib.ListN.{length, get_or, replicate}
 use lib.Seq.{ext_get_or}
-use Rattle.line.specs.Count.{if◌then◌else◌}
+use Rattle.std.specs.Prelude.{if◌then◌else◌}
 use Rattle.line.specs.Line.{from_0, rounds, table_length, outcomes_length, place, has_round}
 use Rattle.line.specs.Ballot.{is_garbled}
 use Rattle.line.specs.Marks.{marked}

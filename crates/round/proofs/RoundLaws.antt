@@ -1,4 +1,5 @@
 -- Laws of one round: the counts of a receiver's column are its row's tallies, and the steps from counts those from the row. Assumes nothing.
+use Rattle.std.specs.Prelude.{if◌then◌else◌}
 use Prim.Native.Nat.{ℕ, zero, suc, ◌+◌, ◌-◌, ◌*◌, ◌≤◌, ◌<◌}
 use mathlib.Core.Path.{◌≡◌, refl, sym, ap, ◌∙◌}
 use mathlib.Core.Bool.{Bool, true, false, ◌&&◌, true≢false}
@@ -8,7 +9,7 @@ use native.Mathlib.Omega.{arith}
 use lib.Dec.{eqb}
 use borrow.Author.Tests.{ltb-true, lt-ltb, lt-leb}
 use lib.ListN.{length, get_or, replicate, get_or-replicate}
-use Rattle.line.specs.Count.{if◌then◌else◌, count}
+use Rattle.line.specs.Count.{count}
 use Rattle.line.specs.Ballot.{blank, is_garbled}
 use Rattle.line.proofs.CountLaws.{le_or_lt}
 use Rattle.line.specs.Line.{Fits, rounds, has_round}

@@ -1,7 +1,6 @@
 -- One round of a whole line, in the automaton's words (crate broadcast, specs/Station.antt): every station tells its ballot, and takes its column of the log.
 -- Stations are counted from 0.
-use Rattle.std.specs.Prelude.{ℕ, ◌+◌, ◌<◌, ◌≡◌, Bool, true, false, ◌&&◌, List, ltb, length, get_or}
-use Rattle.line.specs.Count.{if◌then◌else◌}
+use Rattle.std.specs.Prelude.{ℕ, ◌+◌, ◌<◌, ◌≡◌, Bool, true, false, ◌&&◌, List, ltb, length, get_or, if◌then◌else◌}
 use Rattle.line.specs.Line.{has_round}
 use Rattle.broadcast.specs.Station.{Setup, State, told, moved}
 use Rattle.broadcast.specs.Bytes.{tabulate}

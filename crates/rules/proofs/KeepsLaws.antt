@@ -1,11 +1,12 @@
 -- The test is what the request says. Assumes nothing.
+use Rattle.std.specs.Prelude.{if◌then◌else◌}
 use Prim.Native.Nat.{ℕ, zero, suc, ◌+◌, ◌-◌, ◌≤◌, ◌<◌}
 use mathlib.Core.Path.{◌≡◌, refl, sym, ◌∙◌}
 use mathlib.Core.Bool.{Bool, true, false, ◌||◌}
 use mathlib.Core.Logic.{◌↔◌}
 use native.Mathlib.Omega.{arith}
 use borrow.Author.Tests.{eqb-true, eq-eqb}
-use Rattle.line.specs.Count.{if◌then◌else◌, all}
+use Rattle.line.specs.Count.{all}
 use Rattle.line.specs.Line.{rounds, place}
 use Rattle.line.proofs.CountLaws.{both_true, both_hold, all_true, all_hold}
 use Rattle.broadcast.specs.Station.{ballot, result, at}

@@ -6,7 +6,7 @@ use mathlib.Core.List.{List}
 use lib.ListN.{length, get_or}
 use lib.Seq.{ext_get_or}
 use borrow.Author.Tests.{le-ltb}
-use Rattle.line.specs.Count.{if◌then◌else◌}
+use Rattle.std.specs.Prelude.{if◌then◌else◌}
 use Rattle.line.specs.Marks.{marked}
 use Rattle.refusal.specs.declared.cause.Cause.TheVariants.{TooManyRecords}
 use Rattle.refusal.specs.declared.cause.Verdict.TheVariants.{Accepted}

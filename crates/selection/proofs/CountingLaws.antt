@@ -1,4 +1,5 @@
 -- Laws of counting what is to be written: byte by byte, row by row, round by round. Assumes nothing.
+use Rattle.std.specs.Prelude.{if◌then◌else◌}
 use Prim.Native.Nat.{ℕ, zero, suc, ◌+◌, ◌-◌, ◌*◌, ◌≤◌, ◌<◌}
 use mathlib.Core.Path.{◌≡◌, refl, sym, ◌∙◌}
 use mathlib.Core.Bool.{Bool, true, false, not, ◌&&◌}
@@ -12,7 +13,7 @@ use lib.Dec.{leb, eqb}
 use lib.ListN.{length, get_or}
 use lib.Pow.{pow_pos}
 use borrow.Author.Tests.{le-leb, lt-leb, eq-eqb, ne_eqb}
-use Rattle.line.specs.Count.{if◌then◌else◌, count}
+use Rattle.line.specs.Count.{count}
 use Rattle.line.specs.Marks.{marked}
 use Rattle.line.specs.Line.{place}
 use Rattle.line.specs.Width.{tables_length}

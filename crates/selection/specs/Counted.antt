@@ -1,6 +1,5 @@
 -- What `count` answers.
-use Rattle.std.specs.Prelude.{ℕ, ◌&&◌, List, leb, eqb, length}
-use Rattle.line.specs.Count.{if◌then◌else◌}
+use Rattle.std.specs.Prelude.{ℕ, ◌&&◌, List, leb, eqb, length, if◌then◌else◌}
 use Rattle.line.specs.Line.{most_stations}
 use Rattle.line.specs.Width.{tables_length}
 use Rattle.layout.specs.declared.Header.{Header}

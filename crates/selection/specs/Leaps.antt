@@ -1,6 +1,5 @@
 -- Leaping from one marked station to the next. Stations are counted from 0.
-use Rattle.std.specs.Prelude.{ℕ, zero, suc, ◌-◌, ◌<◌, ◌≡◌, ◌&&◌, List, leb, length, get_or}
-use Rattle.line.specs.Count.{if◌then◌else◌}
+use Rattle.std.specs.Prelude.{ℕ, zero, suc, ◌-◌, ◌<◌, ◌≡◌, ◌&&◌, List, leb, length, get_or, if◌then◌else◌}
 use Rattle.line.specs.Line.{most_stations}
 use Rattle.line.specs.Marks.{marked}
 

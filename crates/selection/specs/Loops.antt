@@ -1,6 +1,6 @@
 -- What the private functions do: for their contracts, and no part of what the public call promises.
-use Rattle.std.specs.Prelude.{ℕ, ◌+◌, ◌*◌, ◌≤◌, ◌<◌, ◌≡◌, Bool, not, List, eqb, length, get_or}
-use Rattle.line.specs.Count.{if◌then◌else◌, count}
+use Rattle.std.specs.Prelude.{ℕ, ◌+◌, ◌*◌, ◌≤◌, ◌<◌, ◌≡◌, Bool, not, List, eqb, length, get_or, if◌then◌else◌}
+use Rattle.line.specs.Count.{count}
 use Rattle.line.specs.Ballot.{silence}
 use Rattle.selection.specs.Places.{from_at}
 

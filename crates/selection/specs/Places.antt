@@ -1,7 +1,7 @@
 -- Which bytes of the run tables are written, and in which order: "one record for each byte of a marked sender that is not 255, by round, then from, then to",
 -- and request 5: "the writer goes by bit before round". That order is the tables' own, one bit's after the other: the places of the bytes increase.
-use Rattle.std.specs.Prelude.{ℕ, zero, suc, ◌+◌, ◌-◌, ◌/◌, ◌%◌, Bool, not, ◌&&◌, List, eqb, get_or}
-use Rattle.line.specs.Count.{if◌then◌else◌, count}
+use Rattle.std.specs.Prelude.{ℕ, zero, suc, ◌+◌, ◌-◌, ◌/◌, ◌%◌, Bool, not, ◌&&◌, List, eqb, get_or, if◌then◌else◌}
+use Rattle.line.specs.Count.{count}
 use Rattle.line.specs.Line.{rounds}
 use Rattle.line.specs.Width.{tables_length}
 use Rattle.line.specs.Marks.{marked}

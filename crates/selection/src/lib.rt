@@ -1,8 +1,8 @@
 // Which bytes of the run tables are written to a sheet: how many there are, by bit, then round, from, to.
 #![tactic(auto)]
 
-ghost use Rattle.std.specs.Prelude.{◌≡◌, ◌+◌, ◌*◌, ◌≤◌, ◌<◌, length};
-ghost use Rattle.line.specs.Count.{if◌then◌else◌, count};
+ghost use Rattle.std.specs.Prelude.{◌≡◌, ◌+◌, ◌*◌, ◌≤◌, ◌<◌, length, if◌then◌else◌};
+ghost use Rattle.line.specs.Count.{count};
 ghost use Rattle.line.specs.Marks.{marked};
 ghost use Rattle.selection.specs.Places.{to_write};
 ghost use Rattle.selection.specs.Counted.{counted};

@@ -7,7 +7,7 @@ use native.Mathlib.Omega.{arith}
 use lib.Dec.{eqb}
 use lib.ListN.{length}
 use borrow.Author.Tests.{eqb-false}
-use Rattle.line.specs.Count.{if◌then◌else◌}
+use Rattle.std.specs.Prelude.{if◌then◌else◌}
 use Rattle.line.specs.Line.{rounds}
 use Rattle.line.specs.Ballot.{read_sender, read_king, is_garbled, bit_or, sender_value}
 use Rattle.line.specs.declared.ballot.Ballot.{Ballot}

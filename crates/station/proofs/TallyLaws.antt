@@ -4,7 +4,7 @@ use mathlib.Core.Path.{◌≡◌}
 use mathlib.Core.Bool.{Bool, true, false}
 use native.Mathlib.Omega.{arith}
 use lib.Dec.{eqb}
-use Rattle.line.specs.Count.{if◌then◌else◌}
+use Rattle.std.specs.Prelude.{if◌then◌else◌}
 use Rattle.line.specs.Ballot.{blank, read_first, read_second, is_garbled, bit_or, first_value, second_value}
 use Rattle.line.specs.declared.ballot.Ballot.{Ballot}
 use Rattle.broadcast.specs.Exchange.{Row, firsts, seconds}

@@ -1,7 +1,6 @@
 // What a row has in a round of an exchange: how many ballots count for a value, and how many are garbled. An accepted row has at most 32 ballots, so that a count
 // fits a byte.
-ghost use Rattle.std.specs.Prelude.{◌≡◌, ◌≤◌, eqb, length};
-ghost use Rattle.line.specs.Count.{if◌then◌else◌};
+ghost use Rattle.std.specs.Prelude.{◌≡◌, ◌≤◌, eqb, length, if◌then◌else◌};
 ghost use Rattle.line.specs.Ballot.{blank, bit_or};
 ghost use Rattle.broadcast.specs.Station.{at};
 ghost use Rattle.station.specs.Tallies.{CountsFirst, CountsSecond};

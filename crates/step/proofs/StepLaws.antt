@@ -4,7 +4,7 @@ use mathlib.Core.Path.{◌≡◌, refl}
 use mathlib.Core.Bool.{Bool, true, false, ◌&&◌}
 use lib.Dec.{ltb}
 use borrow.Author.Tests.{lt-ltb}
-use Rattle.line.specs.Count.{if◌then◌else◌}
+use Rattle.std.specs.Prelude.{if◌then◌else◌}
 use Rattle.broadcast.specs.Exchange.{Row}
 use Rattle.broadcast.specs.Broadcast.{Part, from_sender, first_of, second_of, from_king, speaks}
 use Rattle.broadcast.specs.Garbled.{reading, garbled_ballots, some_garbled}

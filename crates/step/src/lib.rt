@@ -2,8 +2,7 @@
 // from 0 here.
 #![tactic(auto)]
 
-ghost use Rattle.std.specs.Prelude.{◌≡◌, ◌-◌, eqb};
-ghost use Rattle.line.specs.Count.{if◌then◌else◌};
+ghost use Rattle.std.specs.Prelude.{◌≡◌, ◌-◌, eqb, if◌then◌else◌};
 ghost use Rattle.line.specs.Ballot.{silence, bit_or};
 ghost use Rattle.broadcast.specs.Exchange.{z_from, y_from, for_y, grade_of, flag_of};
 ghost use Rattle.broadcast.specs.Broadcast.{part, obey};

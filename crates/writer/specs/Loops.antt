@@ -1,6 +1,6 @@
 -- What the private functions of the writer do: for their contracts, and no part of what the public calls promise.
-use Rattle.std.specs.Prelude.{ℕ, ◌+◌, ◌*◌, ◌≤◌, ◌<◌, ◌≡◌, List, eqb, length}
-use Rattle.line.specs.Count.{if◌then◌else◌, count}
+use Rattle.std.specs.Prelude.{ℕ, ◌+◌, ◌*◌, ◌≤◌, ◌<◌, ◌≡◌, List, eqb, length, if◌then◌else◌}
+use Rattle.line.specs.Count.{count}
 use Rattle.line.specs.Line.{from_0, rounds, table_length, place}
 use Rattle.line.specs.Width.{most_bits, bits, tables_length}
 use Rattle.line.specs.Ballot.{silence}

@@ -1,7 +1,6 @@
 -- The written sheet (document 01, "The run sheet"; document 02, request 1): its header, handed in as the list of its bytes, then its records. Crate record has the bytes
 -- of each.
-use Rattle.std.specs.Prelude.{ℕ, zero, suc, ◌+◌, ◌*◌, List, [], ◌++◌, ltb, get_or}
-use Rattle.line.specs.Count.{if◌then◌else◌}
+use Rattle.std.specs.Prelude.{ℕ, zero, suc, ◌+◌, ◌*◌, List, [], ◌++◌, ltb, get_or, if◌then◌else◌}
 use Rattle.layout.specs.declared.Header.{Header}
 use Rattle.layout.specs.Layout.{header}
 use Rattle.record.specs.Bytes.{header_bytes, eight}

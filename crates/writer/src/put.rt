@@ -1,6 +1,6 @@
 // The sheet's bytes, written once nothing is left to refuse: the header, then the records by bit, then round, from, to.
-ghost use Rattle.std.specs.Prelude.{◌≡◌, ◌+◌, ◌*◌, ◌/◌, ◌%◌, ◌≤◌, ◌<◌, length, true, eqb};
-ghost use Rattle.line.specs.Count.{if◌then◌else◌, count};
+ghost use Rattle.std.specs.Prelude.{◌≡◌, ◌+◌, ◌*◌, ◌/◌, ◌%◌, ◌≤◌, ◌<◌, length, true, eqb, if◌then◌else◌};
+ghost use Rattle.line.specs.Count.{count};
 ghost use Rattle.line.specs.Line.{from_0};
 ghost use Rattle.line.specs.Marks.{marked};
 ghost use Rattle.selection.specs.Places.{to_write};
