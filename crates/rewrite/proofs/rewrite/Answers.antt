@@ -1,5 +1,4 @@
 -- `rewrite` meets its contract, by what the reader answers.
-use borrow.Author.Rules.{rules}
 use mathlib.Core.Path.{sym}
 use native.Mathlib.Omega.{arith}
 use lib.Seq.{length-take-le}

@@ -1,5 +1,4 @@
 -- `rewritten` meets its contract: the tables and the output are long enough for every sheet.
-use borrow.Author.Rules.{rules}
 use Prim.Native.Nat.{ℕ, ◌≤◌, min}
 use mathlib.Core.Path.{sym, ap, ◌∙◌}
 use native.Mathlib.Omega.{arith}

@@ -1,5 +1,4 @@
 -- `write` meets its contract: the output has room for every sheet, and nothing is refused.
-use borrow.Author.Rules.{rules}
 use mathlib.Core.Path.{sym}
 use lib.Seq.{length-take-le}
 use Rattle.rewrite.proofs.OutputLaws.{not_refused, room, stands}
