@@ -1,7 +1,8 @@
 #!/usr/bin/env python3
-"""Holds every exported call and the programs agree, rewrite, audit and seeds to the conformance vectors of vectors/ (vectors/README.md has their form), and the
-model of the tests too. Some vectors are derived from those that are there: the reading of one bit from those of all bits, the runs of a number's bits from its
-own, and checks of their logs; what a header and a seed are refused by, generated tables written, read back and rehearsed, and the sheets of noisy runs.
+"""Holds every exported call and the programs agree, rewrite, audit and seeds to both sets of conformance vectors, those of vectors/ and of vectors/offers/
+(vectors/README.md has their form), and the model of the tests too. Some vectors are derived from those that are there: the reading of one bit from those of all
+bits, the runs of a number's bits from its own, and checks of their logs; what a header and a seed are refused by, generated tables written, read back and rehearsed,
+and the sheets of noisy runs.
 
 A station takes each row by offer and acceptance, which must do what taking it does; other offers must be refused. A call is handed each buffer with bytes around it
 that must stay as they are; so must what it may only read, and in a refused call every buffer. Then the test itself is tried: on copies of the vectors with a wrong
@@ -26,6 +27,10 @@ from model import OUTCOME
 
 TOP = pathlib.Path(__file__).resolve().parent.parent
 VECTORS = TOP / "vectors"
+# each set of vectors, and whether its stations' steps tell the ballot that an offer shows; the files of a set, and how many vectors these have
+SETS = {"vectors": False, "vectors/offers": True}
+FILES = "calls.jsonl", "listings.jsonl", "seeds.jsonl"
+OF_EACH_CALL, LISTINGS, NOISY = 20, 110, 8
 PROGRAM, REWRITE, AUDIT, SEEDS = PROGRAMS = [TOP / "target" / "bin" / name for name in ("agree", "rewrite", "audit", "seeds")]
 LIBRARIES = "exports", "controller", "lent", "offer_calls"
 LINE, STATION, STATE = ("n", "t", "T"), ("n", "t", "T", "sender", "own"), ("round", "value", "z", "grade", "count")
@@ -298,10 +303,22 @@ def station_state(library, args):
 CALLS = {call.__name__: call for call in (read, read_bit, write, generate, exchange, rehearse, check, station, station_state)}
 
 
+def tells_offers(vector):
+    """Whether a step of a vector's station tells an offered ballot."""
+    return any("offered_ballot" in step for step in vector["want"].get("steps", ()))
+
+
+def in_form(made, vector):
+    """What is made of a vector, in its form: without the offered ballots, if it tells none."""
+    if "steps" not in made or tells_offers(vector):
+        return made
+    return {**made, "steps": [{name: told for name, told in step.items() if name != "offered_ballot"} for step in made["steps"]]}
+
+
 def call_fault(library, vector):
     """What is wrong with what the call makes of a vector, if anything is."""
     try:
-        made = CALLS[vector["call"]](library, vector["args"])
+        made = in_form(CALLS[vector["call"]](library, vector["args"]), vector)
     except Fault as fault:
         return str(fault)
     return None if made == vector["want"] else f"gives {made}, wanted is {vector['want']}"
@@ -490,7 +507,7 @@ def model_fault(vector):
     elif "listings" in vector:
         made, wanted = examples.listings(bytes.fromhex(vector["sheet"])), vector["listings"]
     else:
-        made, wanted = modelled(vector["call"], vector["args"]), vector["want"]
+        made, wanted = in_form(modelled(vector["call"], vector["args"]), vector), vector["want"]
     return None if made == wanted else f"gives {made!r}, wanted is {wanted!r}"
 
 
@@ -831,8 +848,10 @@ def own_checks(library, calls, listings, seeds):
                 yield f"{name}: {call} with {more} more", call_fault(Answering(library, call, more), vector) is not None
     for vector in counting(calls):
         yield f"{vector['call']}: a wrong count is told", call_fault(Miscounting(library), vector) is not None
-    for name, wrong_one in misofferings(library):
-        yield f"station: {name} is told", any(call_fault(wrong_one, vector) is not None for vector in calls if vector["call"] == "station")
+    # what an offer shows is told by the steps that have it
+    offered = [vector for vector in calls if tells_offers(vector)]
+    for name, wrong_one in misofferings(library) if offered else ():
+        yield f"station: {name} is told", any(call_fault(wrong_one, vector) is not None for vector in offered)
     for vector in listings[:3]:
         wrongs = [planted(vector, ("listing",)), {**vector, "listing": vector["listing"] + "\n"}, {**vector, "listing": ""}]
         yield "a wrong listing is told", told(wrongs, lambda one: listing_fault(PROGRAM, one)) == 3
@@ -906,12 +925,28 @@ def auditing_checks(vectors):
 
 def lines(path):
     """Each vector of a file, with its place."""
-    return [(f"{path.name}:{number}", json.loads(line)) for number, line in enumerate(path.read_text().splitlines(), 1)]
+    name = path.relative_to(TOP) if path.is_relative_to(TOP) else path.name
+    return [(f"{name}:{number}", json.loads(line)) for number, line in enumerate(path.read_text().splitlines(), 1)]
 
 
-def stored():
-    """The calls, the listings and the listings of noisy runs of vectors/, each with its place."""
-    return [lines(VECTORS / name) for name in ("calls.jsonl", "listings.jsonl", "seeds.jsonl")]
+def stored(name):
+    """The calls, the listings and the listings of noisy runs of a set, each with its place."""
+    return [lines(TOP / name / file) for file in FILES]
+
+
+def set_checks():
+    """There are the files of each set and no others, each with all its vectors, and in one form."""
+    wanted = {TOP / name / file for name in SETS for file in FILES}
+    yield "the files of each set and no others", set(VECTORS.rglob("*.jsonl")) == wanted
+    for name, offers in SETS.items():
+        calls, listings, seeds = stored(name)
+        count = collections.Counter(vector["call"] for _, vector in calls)
+        # readings of one bit follow from others
+        yield f"{name}: {OF_EACH_CALL} vectors of each call", count == {call: OF_EACH_CALL for call in CALLS if call != "read_bit"}
+        yield f"{name}: {LISTINGS} listings and {NOISY} of noisy runs", (len(listings), len(seeds)) == (LISTINGS, NOISY)
+        form = {"ballot", "result", "row"} | ({"offered_ballot"} if offers else set())
+        steps = [set(step) for _, vector in calls for step in vector["want"].get("steps", ())]
+        yield f"{name}: the steps of stations tell {sorted(form)}", steps and all(step == form for step in steps)
 
 
 def derived(calls, listings, seeds):
@@ -925,7 +960,7 @@ def model_checks(calls, listings, seeds):
     """Of the calls that the model has, and of the listings, those of noisy runs too; and that wrong ones of them are told."""
     held = [(place, vector) for place, vector in calls if vector["call"] in MODELLED] + listings + seeds
     for place, fault in ((place, model_fault(vector)) for place, vector in held):
-        yield f"vectors/{place}, by the model: {fault}", fault is None
+        yield f"{place}, by the model: {fault}", fault is None
     for vector in samples([vector for _, vector in held if "call" in vector]):
         wrongs = [planted(vector, ("want", *path)) for path in leaves(vector["want"])]
         yield f"{vector['call']}: all of {len(wrongs)} wrong answers are told by the model", told(wrongs, model_fault) == len(wrongs) > 0
@@ -933,16 +968,23 @@ def model_checks(calls, listings, seeds):
     yield "wrong listings of noisy runs are told by the model", model_fault(planted(seeds[0][1], ("listings",))) is not None
 
 
-def with_derived():
-    """The calls, the listings and those of noisy runs, with all that follow from them."""
-    there = stored()
+def with_derived(name):
+    """The calls, the listings and those of noisy runs of a set, with all that follow from them."""
+    there = stored(name)
     return [[*kind, *more] for kind, more in zip(there, derived(*there))]
 
 
 def checks(library):
     """A name and whether it holds, for each check."""
-    count = collections.Counter(vector["call"] for _, vector in stored()[0])
-    (calls, listings, seeds), each = with_derived(), ", ".join(f"{name} {number}" for name, number in count.items())
+    yield from set_checks()
+    for name in SETS:
+        yield from checks_of(library, name)
+
+
+def checks_of(library, name):
+    """Those of one set."""
+    count = collections.Counter(vector["call"] for _, vector in stored(name)[0])
+    (calls, listings, seeds), each = with_derived(name), ", ".join(f"{call} {number}" for call, number in count.items())
     faults = [(place, call_fault(library, vector)) for place, vector in calls]
     faults += [(place, listing_fault(PROGRAM, vector)) for place, vector in listings]
     faults += [(place, listings_fault(SEEDS, vector)) for place, vector in seeds]
@@ -950,17 +992,24 @@ def checks(library):
     faults += [(f"{place}, by the program", audit_fault(audit, vector)) for place, vector in audits]
     again = [(place, vector) for place, vector in [*calls, *listings] if vector.get("call", "read") == "read"]
     faults += [(f"{place}, rewritten", rewrite_fault(library, rewrite, vector)) for place, vector in again]
-    print(f"{sum(count.values())} calls ({each}) and what follows from them: {len(calls)} calls, {len(listings)} listings, {len(seeds)} of noisy runs, "
+    print(f"{name}: {sum(count.values())} calls ({each}) and what follows from them: {len(calls)} calls, {len(listings)} listings, {len(seeds)} of noisy runs, "
           f"{len(again)} sheets rewritten, {len(audits)} logs checked")
     for place, fault in faults:
-        yield f"vectors/{place}: {fault}", fault is None
+        yield f"{place}: {fault}", fault is None
     yield from model_checks(calls, listings, seeds)
     yield from own_checks(library, *([vector for _, vector in kind] for kind in (calls, listings, seeds)))
 
 
+def checks_of_model():
+    """Those that need nothing built."""
+    yield from set_checks()
+    for name in SETS:
+        yield from model_checks(*with_derived(name))
+
+
 def main():
     if sys.argv[1:] == ["--model"]:
-        return closing(model_checks(*with_derived()))
+        return closing(checks_of_model())
     with tempfile.TemporaryDirectory() as folder:
         return closing(checks(linked(folder)))
 

@@ -1,4 +1,5 @@
-//! The conformance vectors of `vectors/`, computed from the documents by another implementation.
+//! The conformance vectors of `vectors/`, computed from the documents by another implementation: both sets, of which that of
+//! `vectors/offers/` tells in the steps of a station what an offer shows.
 
 mod json;
 
@@ -15,9 +16,34 @@ use peer::sheet;
 use peer::station::{Answer, Station};
 use peer::writer;
 
-const CALLS: &str = include_str!("../../vectors/calls.jsonl");
-const LISTINGS: &str = include_str!("../../vectors/listings.jsonl");
-const SEEDS: &str = include_str!("../../vectors/seeds.jsonl");
+/// A set of vectors: its name, its three files, and whether the steps of its stations have the offered ballot.
+struct Set {
+    name: &'static str,
+    calls: &'static str,
+    listings: &'static str,
+    seeds: &'static str,
+    offered: bool,
+}
+
+const SETS: [Set; 2] = [
+    Set {
+        name: "vectors",
+        calls: include_str!("../../vectors/calls.jsonl"),
+        listings: include_str!("../../vectors/listings.jsonl"),
+        seeds: include_str!("../../vectors/seeds.jsonl"),
+        offered: false,
+    },
+    Set {
+        name: "vectors/offers",
+        calls: include_str!("../../vectors/offers/calls.jsonl"),
+        listings: include_str!("../../vectors/offers/listings.jsonl"),
+        seeds: include_str!("../../vectors/offers/seeds.jsonl"),
+        offered: true,
+    },
+];
+
+/// How many vectors each set has: of each call, listings, sheets with the listings of noisy runs.
+const HELD: (usize, usize, usize) = (20, 110, 8);
 
 fn refused(cause: Cause) -> Value {
     Value::object([("refused", Value::Number(cause.number().into()))])
@@ -127,24 +153,28 @@ fn told(ballot: Result<u8, Cause>) -> Value {
     ballot.map_or_else(refused, |ballot| Value::Number(ballot.into()))
 }
 
-/// What a station tells before a row and answers to it, and the ballot that an offer of the row shows. A refused row leaves it
-/// where it is. To accept the offer is to take the row.
-fn step(station: &mut Station, row: &[u8]) -> Value {
+/// What a station tells before a row and answers to it, and in the set that has it the ballot that an offer of the row shows. A
+/// refused row leaves it where it is. To accept the offer is to take the row.
+fn step(station: &mut Station, row: &[u8], offered: bool) -> Value {
     let (ballot, result, offer) = (told(station.ballot()), result(station), station.offer(row));
-    let offered = told(offer.map(|offer| offer.ballot));
+    let shown = told(offer.map(|offer| offer.ballot));
     let accepted = offer.and_then(|offer| station.accept(row, &offer));
     assert_eq!(accepted, station.take(row));
     let taken = accepted.map(|next| *station = next);
     let row = taken.map_or_else(refused, |()| Value::Text("taken".to_string()));
-    Value::object([("ballot", ballot), ("result", result), ("row", row), ("offered_ballot", offered)])
+    let [ballot, result, row] = [("ballot", ballot), ("result", result), ("row", row)];
+    match offered {
+        true => Value::object([ballot, result, row, ("offered_ballot", shown)]),
+        false => Value::object([ballot, result, row]),
+    }
 }
 
-fn station(args: &Value) -> Value {
+fn station(args: &Value, offered: bool) -> Value {
     let [sender, own, value] = ["sender", "own", "value"].map(|name| args.number(name));
     match Station::open(line(args), sender, own, value) {
         Ok(mut station) => {
             let rows = args.list("rows").iter().map(Value::bytes);
-            let steps = rows.map(|row| step(&mut station, &row)).collect();
+            let steps = rows.map(|row| step(&mut station, &row, offered)).collect();
             Value::object([("steps", Value::List(steps)), ("result", result(&station))])
         }
         Err(cause) => refused(cause),
@@ -163,8 +193,8 @@ fn station_state(args: &Value) -> Value {
     Value::object([("refusals", Value::object(refusals))])
 }
 
-/// What this implementation makes of a call.
-fn made(call: &str, args: &Value) -> Value {
+/// What this implementation makes of a call, its steps with the offered ballot or without.
+fn made(call: &str, args: &Value, offered: bool) -> Value {
     match call {
         "read" => read(args),
         "write" => write(args),
@@ -172,7 +202,7 @@ fn made(call: &str, args: &Value) -> Value {
         "check" => checked(args),
         "exchange" => exchange(args),
         "rehearse" => rehearsal(args),
-        "station" => station(args),
+        "station" => station(args, offered),
         "station_state" => station_state(args),
         _ => panic!("a call that isn't known: {call}"),
     }
@@ -180,36 +210,45 @@ fn made(call: &str, args: &Value) -> Value {
 
 #[test]
 fn calls() {
-    let vectors: Vec<Value> = CALLS.lines().map(Value::of).collect();
-    let mut used: BTreeMap<&str, usize> = BTreeMap::new();
-    for (vector, number) in vectors.iter().zip(1..) {
-        let call = vector.text("call");
-        assert_eq!(&made(call, vector.at("args")), vector.at("want"), "calls.jsonl, line {number}");
-        *used.entry(call).or_default() += 1;
+    for Set { name, calls, offered, .. } in SETS {
+        let vectors: Vec<Value> = calls.lines().map(Value::of).collect();
+        let mut used: BTreeMap<&str, usize> = BTreeMap::new();
+        for (vector, number) in vectors.iter().zip(1..) {
+            let call = vector.text("call");
+            let made = made(call, vector.at("args"), offered);
+            assert_eq!(&made, vector.at("want"), "{name}/calls.jsonl, line {number}");
+            *used.entry(call).or_default() += 1;
+        }
+        assert_eq!(used.values().sum::<usize>(), calls.lines().count(), "{used:?}");
+        assert_eq!(used.len(), 8, "a call has no vector: {used:?}");
+        assert!(used.values().all(|&many| many == HELD.0), "{name}: {used:?}");
     }
-    assert_eq!(used.values().sum::<usize>(), CALLS.lines().count(), "{used:?}");
-    assert_eq!(used.len(), 8, "a call has no vector: {used:?}");
 }
 
-/// Compares what is printed of the sheet of each line with what the line has under this name.
-fn printed(name: &str, file: &str, lines: &str, of_sheet: fn(&[u8]) -> String) {
+/// Compares what is printed of the sheet of each line with what the line has under this key.
+fn printed(key: &str, file: &str, lines: &str, wanted: usize, of_sheet: fn(&[u8]) -> String) {
     let mut used = 0;
     for (line, number) in lines.lines().zip(1..) {
         let vector = Value::of(line);
-        assert_eq!(of_sheet(&vector.at("sheet").bytes()), vector.text(name), "{file}, line {number}");
+        assert_eq!(of_sheet(&vector.at("sheet").bytes()), vector.text(key), "{file}, line {number}");
         used += 1;
     }
     assert!(used > 0 && used == lines.lines().count());
+    assert_eq!(used, wanted, "{file}");
 }
 
 #[test]
 fn sheets_listed() {
-    printed("listing", "listings.jsonl", LISTINGS, listing);
+    for Set { name, listings, .. } in SETS {
+        printed("listing", &format!("{name}/listings.jsonl"), listings, HELD.1, listing);
+    }
 }
 
 #[test]
 fn sheets_with_seeds() {
-    printed("listings", "seeds.jsonl", SEEDS, listings);
+    for Set { name, seeds, .. } in SETS {
+        printed("listings", &format!("{name}/seeds.jsonl"), seeds, HELD.2, listings);
+    }
 }
 
 /// What the vectors are held by tells values apart.
