@@ -6,4 +6,4 @@ use Rattle.seeds.proofs.list_seed.Goals as goal
 pub returns : goal.returns
 returns c =
     let kept = c.rehearse.auto in
-    (ready_again _ _ _ _ _ _ _ kept.1.1.0 kept.1.1.1.0 kept.1.1.1.1.0 c.requires.0, lines_seed _ _ c.requires.1 _ _ _ _ _ _ c.requires.0 c.rehearse.ensures _ _ _ _ c.of_run.ensures)
+    (ready_again _ _ _ _ _ _ _ kept.table kept.log kept.outcomes c.requires.0, lines_seed _ _ c.requires.1 _ _ _ _ _ _ c.requires.0 c.rehearse.ensures _ _ _ _ c.of_run.ensures)
