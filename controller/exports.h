@@ -28,8 +28,8 @@
  * reads nothing but its arguments and the bytes that they point to, keeps
  * nothing, and the same arguments always give the same answer and the same
  * bytes. It writes only what is said below; if it is refused, every byte is as
- * it was. It calls nothing but memcpy and memset, which it takes from the C
- * library.
+ * it was. It calls nothing but memcpy, memmove and memset, which it takes from
+ * the C library.
  *
  * A pointer has to point to as many bytes as its length says, which nobody else
  * writes during the call. It may be NULL only if that length is 0. No call
@@ -70,8 +70,8 @@ static inline int vembopu_is_bad(const uint8_t *outcome)
 }
 
 /*
- * Bytes of stack that a call needs at most, as in vembopu.h, with memcpy and
- * memset of the GNU C library. Where these are bound at their first use, the
+ * Bytes of stack that a call needs at most, as in vembopu.h, with memcpy,
+ * memmove and memset of the GNU C library. Where these are bound at their first use, the
  * dynamic linker needs more in the first call.
  */
 enum {
@@ -80,9 +80,9 @@ enum {
     VEMBOPU_STACK_SHEET_LEN = 256,
     VEMBOPU_STACK_WRITE = 512,
     VEMBOPU_STACK_GENERATE = 192,
-    VEMBOPU_STACK_REHEARSE = 1792,
-    VEMBOPU_STACK_CHECK = 1408,
-    VEMBOPU_STACK_EXCHANGE = 3712
+    VEMBOPU_STACK_REHEARSE = 3328,
+    VEMBOPU_STACK_CHECK = 3072,
+    VEMBOPU_STACK_EXCHANGE = 5120
 };
 
 /*

@@ -153,13 +153,14 @@ enum {
  * Bytes of stack that a call needs at most, its arguments, its return address
  * and its red zone included: measured on the libraries for x86-64 (stack.c),
  * not proved, and rounded up. What an interrupt lays on the same stack comes on
- * top. The calls keep to the System V ABI and use SSE2 registers: a task or an
- * interrupt that calls them has these saved.
+ * top. The calls keep to the System V ABI and use SSE registers: a task or an
+ * interrupt that calls them has these saved. The machine has SSE4.2
+ * (x86-64-v2).
  */
 enum {
     VEMBOPU_STACK_OPEN = 32,
     VEMBOPU_STACK_BALLOT = 64,
-    VEMBOPU_STACK_ADVANCE = 128,
+    VEMBOPU_STACK_ADVANCE = 192,
     VEMBOPU_STACK_RESULT = 64,
     VEMBOPU_STACK_OFFER = 256,
     VEMBOPU_STACK_ACCEPT = 384,
