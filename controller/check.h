@@ -55,14 +55,15 @@ static inline int closing_count(void)
     return failed == 0 ? 0 : 1;
 }
 
+static uint64_t lot = 88172645463325252u;
+
 /* The same numbers in every run: an xorshift of 64 bits. */
 static inline uint32_t draw_word(void)
 {
-    static uint64_t x = 88172645463325252u;
-    x ^= x << 13;
-    x ^= x >> 7;
-    x ^= x << 17;
-    return (uint32_t)(x >> 32);
+    lot ^= lot << 13;
+    lot ^= lot >> 7;
+    lot ^= lot << 17;
+    return (uint32_t)(lot >> 32);
 }
 
 /* One of 0 to below - 1. */

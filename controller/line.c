@@ -2,10 +2,11 @@
  * Whole lines of bonders, each good one in a process of its own with a station
  * for each bit of the number. This process is the wire: each round it collects
  * the ballots of every good bonder, takes the bad ones' bytes from the bits'
- * tables, and hands each good bonder its rows, which it takes by advance, or by
- * offer and acceptance, on numbers or lent. Every ballot is held to the log of
- * the rehearsal, also as it is shown by an offer, and every outcome to its
- * outcomes. The rehearsal of a number is held to those of its bits, each alone.
+ * tables, and hands each good bonder its rows, which it takes by advance, and on
+ * the same line once more by offer and acceptance, on numbers or lent. Every
+ * ballot is held to the log of the rehearsal, also as it is shown by an offer, and
+ * every outcome to its outcomes. The rehearsal of a number is held to those of its
+ * bits, each alone.
  */
 #define _DEFAULT_SOURCE
 #include "check.h"
@@ -360,7 +361,7 @@ static int take_outcomes(const struct line *l)
             return differs(l, done, i, "another outcome than the rehearsal's");
         if (vembopu_is_bad(outcomes + VEMBOPU_OUTCOME * (i - 1)) != is_bad(l, i))
             return differs(l, done, i, "good or bad by its outcome, and isn't");
-        counted[m[4] % COUNTS] += !is_bad(l, i);
+        counted[m[4] % COUNTS] += way == BY_ADVANCE && !is_bad(l, i);
     }
     return 1;
 }
@@ -413,14 +414,21 @@ static int run(const struct line *l)
     return end_all() && same;
 }
 
-/* Lines take their rows in each way in turn. */
-static void check_line(const struct line *l)
+static void check_way(const struct line *l, int rows_taken)
 {
-    way = (int)(lines % WAYS);
+    way = rows_taken;
     check(run(l), "n %d t %d T %d sender %d value %d w %d marks %08lx, way %d", l->n, l->t, l->T, l->sender, l->value,
           l->w, (unsigned long)l->marks, way);
-    of_width[l->w]++;
     of_way[way]++;
+}
+
+/* Every line takes its rows by advance, and then in one of the other ways, each of
+   them in turn. */
+static void check_line(const struct line *l)
+{
+    check_way(l, BY_ADVANCE);
+    check_way(l, BY_OFFER + (int)(lines % (WAYS - BY_OFFER)));
+    of_width[l->w]++;
     if (++lines % SAID_EVERY == 0) {
         printf("%lu lines\n", lines);
         fflush(stdout);
@@ -659,6 +667,7 @@ static void check_ways(void)
         printf("%sby %s: %lu%s", k == 0 ? "lines " : "", name[k], of_way[k], k < BY_NUMBER ? ", " : "\n");
         check(of_way[k] > 99, "too few lines by %s: %lu", name[k], of_way[k]);
     }
+    check(of_way[BY_ADVANCE] == lines, "%lu of %lu lines by advance", of_way[BY_ADVANCE], lines);
 }
 
 int main(void)

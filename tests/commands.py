@@ -124,7 +124,9 @@ def refusals(folder):
 def documented():
     rows = dict(re.findall(r"^\| (\d+) \| (.*) \|$", (TOP / "README.md").read_text(encoding="utf-8"), re.M))
     yield "README.md has the causes in the same words", rows == causes()
-    yield "the causes 1 to 17 and no others", [int(number) for number in causes()] == list(range(1, 18))
+    numbers = [int(number) for number in causes()]
+    yield "the causes 1 to 16", numbers[:16] == list(range(1, 17))
+    yield "then that of an offer, 17, and no others", numbers[16:] == [17]
 
 
 # ---- trouble with the streams
@@ -624,6 +626,8 @@ def identified(folder):
     sums = Ran("build")
     done = subprocess.run(["sha256sum", "--check"], input=sums.out, cwd=TOP, capture_output=True)
     yield "./build prints the sums of what it builds", sums.status == 0 and done.stdout.count(b": OK\n") == 8 == sums.out.count(b"\n")
+    some = Ran("build", *PROGRAMS, "controller", "lent", "exports")
+    yield "those of seven without offer and acceptance", some.status == 0 and some.out.count(b"\n") == 7 and set(some.out.splitlines()) < set(sums.out.splitlines())
     subprocess.run(["gcc", "-O2", "controller/example.c", "target/staticlib/libcontroller.a", "-o", example], cwd=TOP, check=True)
     subprocess.run(["strip", "-o", folder / "stripped", example], check=True)
     for built_file in *(f"bin/{name}" for name in PROGRAMS), "staticlib/libcontroller.a", "staticlib/liblent.a", "staticlib/liboffer_calls.a", "staticlib/libexports.a":
@@ -631,7 +635,7 @@ def identified(folder):
         yield f"./identify of {built_file}", Ran("identify", f"target/{built_file}").gives(0, said.encode())
     calls = "vembopu_advance, vembopu_ballot, vembopu_open, vembopu_result"
     for file in example, folder / "stripped":
-        yield f"./identify of a controller, {file.name}", Ran("identify", file).gives(0, f"{file}: has {calls} as this tree builds them, and no call of liblent.a or liboffer_calls.a or libexports.a\n".encode())
+        yield f"./identify of a controller, {file.name}", Ran("identify", file).gives(0, f"{file}: has {calls} as this tree builds them, and no call of liblent.a or libexports.a\n".encode())
         data, other = file.read_bytes(), folder / "other"
         other.write_bytes(with_other(data, section(".text.vembopu_ballot")))
         rest = calls.replace("vembopu_ballot, ", "")

@@ -454,9 +454,34 @@ fn commands_that_are_not_built() {
 #[cfg(feature = "verified")]
 const FUZZED: &str = "1000";
 
-/// Seed 7 and so many turns of a command that compares twenty calls: all pass, without a difference.
+/// The calls that both commands compare, those that one of them does, and offer and acceptance.
 #[cfg(feature = "verified")]
-fn finds_no_difference(command: &str, turns: &str) {
+const BOTH: [&str; 13] = [
+    "read",
+    "read_bit",
+    "sheet_len",
+    "write",
+    "generate",
+    "rehearse",
+    "check",
+    "exchange",
+    "open",
+    "ballot",
+    "advance",
+    "advance_lent",
+    "result",
+];
+#[cfg(feature = "verified")]
+const COMPARED: [&str; 4] = ["read back", "generated back", "marks back", "whole run"];
+#[cfg(feature = "verified")]
+const FUZZED_TOO: [&str; 4] = ["agree", "rewrite", "audit", "seeds"];
+#[cfg(feature = "verified")]
+const OFFERS: [&str; 3] = ["offer", "accept", "accept_lent"];
+
+/// Seed 7 and so many turns of a command that compares seventeen calls and the three of offer and acceptance: all pass, without
+/// a difference.
+#[cfg(feature = "verified")]
+fn finds_no_difference(command: &str, turns: &str, further: &[&str; 4]) {
     let (status, printed, said) = peer(&[command, "7", turns], &[]);
     // a slow machine may have said how far it is
     assert!(status == 0 && !said.contains("to repeat: "));
@@ -465,12 +490,16 @@ fn finds_no_difference(command: &str, turns: &str) {
         printed.starts_with(&format!("seed 7, {turns} turns; "))
             && printed.ends_with("\n20 passed, 0 failed\n")
     );
+    let told: Vec<&str> = printed.lines().filter_map(|line| line.get(..15)).map(str::trim_end).collect();
+    for calls in [&BOTH[..], further, &OFFERS] {
+        assert!(calls.iter().all(|call| told.contains(call)), "{command} {calls:?}: {printed}");
+    }
 }
 
 #[cfg(feature = "verified")]
 #[test]
 fn comparing() {
-    finds_no_difference("compare", "3");
+    finds_no_difference("compare", "3", &COMPARED);
     for words in [&["compare", "x"][..], &["compare", "1", "2", "3"], &["bench", "1"]] {
         assert_eq!(peer(words, &[]).0, 2);
     }
@@ -479,7 +508,7 @@ fn comparing() {
 #[cfg(feature = "verified")]
 #[test]
 fn fuzzing() {
-    finds_no_difference("fuzz", FUZZED);
+    finds_no_difference("fuzz", FUZZED, &FUZZED_TOO);
     for words in [&["fuzz", "x"][..], &["fuzz", "1", "2m"], &["fuzz", "1", "1", "a", "b", "c", "d", "e"]] {
         assert_eq!(peer(words, &[]).0, 2);
     }
@@ -505,6 +534,7 @@ fn fuzzing_a_wrong_program() {
     for (words, name) in programs(wrong) {
         let (status, printed, said) = peer(&[&["fuzz", "7", FUZZED], &words[..]].concat(), &[]);
         let printed = String::from_utf8(printed).unwrap();
+        // sixteen others, and the three of offer and acceptance
         assert!(status == 1 && printed.ends_with(" inputs with a difference\n19 passed, 1 failed\n"));
         let exit = format!("{name}: exit status: 2, on standard error ");
         for words in [&exit, " bytes\n", "to repeat: peer fuzz 7 "] {

@@ -278,9 +278,10 @@ fn edge_station(lot: &mut Lot) -> Station {
 
 #[test]
 fn station_states() {
-    let mut lot = Lot(4);
+    // offers have a lot of their own, so that stations and rows are as they are drawn without them
+    let (mut lot, mut offers) = (Lot(4), Lot(17));
     // by_count: how often a count that isn't below its round stands with another cause, and alone
-    let (mut seen, mut by_count) = ([0; 18], [0; 2]);
+    let (mut seen, mut accepting, mut by_count) = ([0; 14], [0; 18], [0; 2]);
     for _ in 0..60_000 {
         let station = edge_station(&mut lot);
         let Station { n, t, upper, sender, own, round, value, z, grade, count } = station;
@@ -305,15 +306,17 @@ fn station_states() {
         causes.push((8, row.len() != usize::from(n)));
         let expected = lowest(&causes);
         assert_eq!(code(station.take(&row)), expected, "{station:?}");
+        seen[usize::from(expected)] += 1;
         assert_eq!(code(station.offer(&row)), expected, "{station:?}");
         // 17 comes after 8
-        let offer = edge_offer(&mut lot, &station, &row);
+        let offer = edge_offer(&mut offers, &station, &row);
         causes.push((17, station.offer(&row) != Ok(offer)));
         let expected = lowest(&causes);
         assert_eq!(code(station.accept(&row, &offer)), expected, "{station:?} {offer:?}");
-        seen[usize::from(expected)] += 1;
+        accepting[usize::from(expected)] += 1;
     }
-    assert!([0, 2, 3, 4, 7, 8, 17].iter().all(|&cause: &usize| seen[cause] > 20), "{seen:?}");
+    assert!([0, 2, 3, 4, 7, 8].iter().all(|&cause: &usize| seen[cause] > 20), "{seen:?}");
+    assert!([0, 2, 3, 4, 7, 8, 17].iter().all(|&cause: &usize| accepting[cause] > 20), "{accepting:?}");
     assert!(by_count.iter().all(|&many| many > 20), "{by_count:?}");
 }
 

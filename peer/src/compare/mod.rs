@@ -53,11 +53,12 @@ const CALLS: [Call; 20] = [
     call("ballot", 16, &stations::ASK, stations::ballot),
     call("advance", 32, &stations::ADVANCE, stations::advance),
     call("advance_lent", 16, &stations::ADVANCE, stations::advance_lent),
+    call("result", 16, &stations::ASK, stations::result),
+    call("whole run", 1, &[0], whole::run),
+    // last, so that all others draw the inputs that they draw without them
     call("offer", 16, &stations::ADVANCE, offers::offer),
     call("accept", 32, &offers::ACCEPT, offers::accept),
     call("accept_lent", 16, &offers::ACCEPT, offers::accept_lent),
-    call("result", 16, &stations::ASK, stations::result),
-    call("whole run", 1, &[0], whole::run),
 ];
 
 /// So many turns must have brought every number that a call can answer.

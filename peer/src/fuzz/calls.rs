@@ -61,10 +61,10 @@ pub fn linked() -> Vec<Call> {
         Call::new("ballot", Shape::Station, 1, &stations::ASK, |_, input| ballot(input)),
         Call::new("advance", Shape::Station, 1, &stations::ADVANCE, advance),
         Call::new("advance_lent", Shape::Station, 1, &stations::ADVANCE, advance_lent),
+        Call::new("result", Shape::Station, 1, &stations::ASK, |_, input| result(input)),
         Call::new("offer", Shape::Station, 1, &stations::ADVANCE, offer),
         Call::new("accept", Shape::Station, 1, &offers::ACCEPT, accept),
         Call::new("accept_lent", Shape::Station, 1, &offers::ACCEPT, accept_lent),
-        Call::new("result", Shape::Station, 1, &stations::ASK, |_, input| result(input)),
     ]
 }
 
@@ -418,8 +418,9 @@ mod tests {
         let (sheet, written) = (vec!["the sheet"], vec!["the table", "the header"]);
         let read = [sheet.clone(), sheet, written.clone(), written, vec!["the header"], table];
         let lines = [vec!["the outcomes", "the log"], vec!["the table", "the inputs"]];
-        let (asked, rows) = ([vec![], vec![]], [0; 5].map(|_| row.clone()));
-        assert_eq!(found, [&read[..], &lines, &asked, &rows, &asked[..1]].concat());
+        let offers = [0; 3].map(|_| row.clone());
+        let stations = [vec![], vec![], row.clone(), row, vec![]];
+        assert_eq!(found, [&read[..], &lines, &stations, &offers].concat());
     }
 
     /// A header whose t, sender, value, w and marks are refused.
@@ -486,14 +487,18 @@ mod tests {
             all.iter().map(|compared| compared.number).collect::<Vec<u8>>()
         };
         let seeds = 0..40;
-        let accepted = [[0; 9].as_slice(), &[7; 7]].concat();
-        assert!(seeds.clone().any(|seed| numbers(sheet, seed) == accepted));
+        let accepted = [0, 0, 0, 0, 0, 0, 0, 0, 0, 7, 7, 7, 7];
+        assert!(seeds.clone().any(|seed| numbers(sheet, seed)[..13] == accepted));
+        assert!(seeds.clone().any(|seed| numbers(sheet, seed) == [&accepted[..], &[7; 3]].concat()));
         assert!(seeds.clone().any(|seed| numbers(sheet, seed)[2..4] == [0, 8]));
         // no byte is left for a seed
         assert!(seeds.clone().any(|seed| numbers(sheet, seed)[4] == 16));
         assert!((0..400).any(|seed| numbers(sheet, seed)[6] == 8));
+        assert!(seeds.clone().any(|seed| numbers(&opened, seed)[8..13] == [0, 0, 0, 0, 0]));
+        assert!(seeds.clone().any(|seed| numbers(&opened, seed)[10..12] == [8, 8]));
+        // of offer and acceptance
         assert!((0..400).any(|seed| numbers(&opened, seed)[8..] == [0; 8]));
-        for (call, number) in (10..15).map(|call| (call, 8)).chain([(13, 17), (14, 17)]) {
+        for (call, number) in (13..16).map(|call| (call, 8)).chain([(14, 17), (15, 17)]) {
             assert!((0..400).any(|seed| numbers(&opened, seed)[call] == number), "{call}, {number}");
         }
     }
