@@ -1,5 +1,4 @@
 -- `list` meets its contract, by what the reader answers.
-use borrow.Author.Rules.{rules}
 use native.Mathlib.Omega.{arith}
 use Rattle.listing_lines.proofs.OutputLaws.{refused_output}
 use Rattle.seeds.proofs.OutputLaws.{begun, accepted_output, refused}

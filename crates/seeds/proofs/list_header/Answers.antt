@@ -1,5 +1,4 @@
 -- `list_header` meets its contract: the outcomes of at most 32 stations have room.
-use borrow.Author.Rules.{rules}
 use native.Mathlib.Omega.{arith}
 use Prim.Native.Nat.{◌*◌, ◌≤◌}
 use mathlib.Core.Path.{sym}

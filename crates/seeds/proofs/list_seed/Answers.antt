@@ -1,5 +1,4 @@
 -- `list_seed` meets its contract.
-use borrow.Author.Rules.{rules}
 use Rattle.seeds.proofs.SeedLaws.{lines_seed, ready_again}
 use Rattle.seeds.proofs.list_seed.Goals as goal
 

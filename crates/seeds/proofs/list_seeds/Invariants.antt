@@ -1,13 +1,7 @@
 -- `list_seeds` meets its contract. The loop's invariant: the listings of the seeds below this one are put.
-use borrow.Author.Rules.{rules}
-use native.Mathlib.Omega.{arith}
-use Prim.Native.Nat.{suc, ◌+◌, ◌-◌, ◌≤◌}
-use mathlib.Core.Path.{◌≡◌, sym, ◌∙◌}
-use lib.Pow.{pow_pos}
+use Prim.Native.Nat.{◌-◌, ◌≤◌}
 use Rattle.text.specs.Laid.{Puts}
-use Rattle.text.proofs.LaidLaws.{puts_none, puts_length}
-use Rattle.seeded.specs.Listings.{last_seed, listings}
-use Rattle.seeded.proofs.ListingLaws.{listings_turn}
+use Rattle.seeded.specs.Listings.{listings}
 use Rattle.seeds.specs.Loops.{Ready}
 use Rattle.seeds.proofs.list_seeds.Given as goal
 

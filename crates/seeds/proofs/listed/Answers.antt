@@ -1,5 +1,4 @@
 -- `listed` meets its contract: table, log and output are long enough for every sheet.
-use borrow.Author.Rules.{rules}
 use native.Mathlib.Omega.{arith}
 use Prim.Native.Nat.{ℕ, ◌≤◌, min}
 use mathlib.Core.Path.{sym, ap, ◌∙◌}
