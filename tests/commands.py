@@ -337,6 +337,10 @@ def audited(folder):
     odd = [folder / name for name in ("-a & b: c.log", "-")]
     for file, content in zip(odd, (LOG, OUTCOMES)):
         file.write_bytes(content)
+    # names that are no text in UTF-8
+    raw = [folder / os.fsdecode(name) for name in (b"log \xff", b"outcomes \xc3")]
+    for file, content in zip(raw, (LOG, OUTCOMES)):
+        file.write_bytes(content)
     os.symlink(TOP / "audit", folder / "linked")
     log, outcomes = examples.logged(examples.runs_of((TOP / "examples" / "d.sheet").read_bytes())[1][0])
     for name, content in ("d.log", log), ("d.outcomes", outcomes):
@@ -345,6 +349,9 @@ def audited(folder):
     yield "audit: case A's log", Ran("audit", 4, 1, 1, 1, "examples/a.log", "examples/a.outcomes").gives(0, b"broke 4\n")
     yield "audit: a log in which all keep the rules", Ran("audit", 1, 0, 0, 1, folder / "d.log", folder / "d.outcomes").gives(0, b"broke\n")
     yield "audit: names with signs in them", Ran("linked", "--", *LINE, odd[0].name, "./-", top=folder).gives(0, BROKE)
+    yield "audit: names that are no text", Ran("audit", *LINE, *raw).gives(0, BROKE)
+    yield "audit: one of them alone", Ran("audit", *LINE, FILES[0], raw[1]).gives(0, BROKE)
+    yield "audit: a name that is no text, of no file", Ran("audit", *LINE, folder / os.fsdecode(b"none \xff"), FILES[1]).status == 1
     yield "audit: numbers with zeros before them", Ran("audit", "005", "01", "1", "002", *FILES).gives(0, BROKE)
     yield "audit: pipes by their names", in_shell(f"./audit {' '.join(LINE)} <(cat {FILES[0]}) <(cat {FILES[1]})").stdout == BROKE
     status, shown = on_terminal(["./audit", *LINE, *FILES])

@@ -1,6 +1,6 @@
 -- How many bytes an answer tells of. Assumes nothing.
-use Prim.Native.Nat.{ℕ, zero, suc, ◌+◌, ◌≤◌, ◌<◌}
-use mathlib.Core.Path.{◌≡◌, sym}
+use Prim.Native.Nat.{ℕ, zero, suc, ◌+◌, ◌^◌, ◌≤◌, ◌<◌}
+use mathlib.Core.Path.{◌≡◌, refl, sym}
 use mathlib.Core.List.{List}
 use native.Mathlib.Omega.{arith}
 use lib.ListN.{length}
@@ -12,7 +12,7 @@ use Rattle.std.specs.declared.io.Error.{Error}
 use Rattle.input.specs.declared.Input.{Input}
 use Rattle.input.specs.declared.Input.TheVariants.{Bytes, Failed}
 use Rattle.input.specs.declared.Next.TheVariants.{On, End}
-use Rattle.input.specs.Reading.{of_read, Within, following}
+use Rattle.input.specs.Reading.{of_read, Within, Room, following}
 
 -- what is no more than the buffer's length counts bytes of it
 pub counts : (n : ℕ) (buffer : List ℕ) → n ≤ length buffer → IsPrefixLen n buffer
@@ -44,3 +44,22 @@ module _ (done : ℕ) (part : List ℕ) where
   end_means (Bytes zero) answer buffer e h = let q : answer ≡ Bytes done = cc in rw q (counts done buffer h)
   end_means (Bytes (suc k)) answer buffer e h = let z : ◌≡◌ {A = ℕ} 0 1 = cc in absurd (omega arith)
   end_means (Failed why) answer buffer e h = let q : answer ≡ Failed why = cc in rw q tt
+
+  -- there is room for what a part of a buffer was told of
+  pub roomy : (got : Input) → Within got part → done + length part < 2 ^ 64 → Room done got
+  roomy (Bytes n) w h = omega (arith, w.0)
+  roomy (Failed why) w h = tt
+
+-- the three cases
+pub failed_ends : (done : ℕ) (got : Input) (why : Error) → got ≡ Failed why → End (Failed why) ≡ following done got
+unfolding following
+failed_ends done got why e = rw e
+
+pub none_ends : (done : ℕ) (got : Input) (n : ℕ) → got ≡ Bytes n → n ≡ 0 → End (Bytes done) ≡ following done got
+unfolding following
+none_ends done got n e z = rw (e, z)
+
+pub some_goes_on : (done : ℕ) (got : Input) (n : ℕ) → got ≡ Bytes n → (n ≡ 0 → ⊥) → On (done + n) ≡ following done got
+unfolding following
+some_goes_on done got zero e z = absurd (z refl)
+some_goes_on done got (suc k) e z = rw e
