@@ -15,7 +15,7 @@ loop-seed-init c =
 
 pub list_seed-at-requires : goal.list_seed-at-requires
 list_seed-at-requires c =
-    (c.loop-seed.invariant.2, record { some = c.loop-seed.invariant.0 })
+    (c.loop-seed.invariant.2, record { some = omega arith })
 
 pub loop-seed-preserved : goal.loop-seed-preserved
 loop-seed-preserved c =
