@@ -42,7 +42,7 @@ class Ran:
             del streams["stdin"]
         try:
             done = subprocess.run([f"./{words[0]}", *map(str, words[1:])], cwd=top, timeout=HANGS, **streams)
-            self.status, self.out, self.said = done.returncode, done.stdout, (done.stderr or b"").decode()
+            self.status, self.out, self.said = done.returncode, done.stdout, os.fsdecode(done.stderr or b"")
         except subprocess.TimeoutExpired:
             self.status, self.out, self.said = "hangs", b"", ""
 
@@ -351,7 +351,8 @@ def audited(folder):
     yield "audit: names with signs in them", Ran("linked", "--", *LINE, odd[0].name, "./-", top=folder).gives(0, BROKE)
     yield "audit: names that are no text", Ran("audit", *LINE, *raw).gives(0, BROKE)
     yield "audit: one of them alone", Ran("audit", *LINE, FILES[0], raw[1]).gives(0, BROKE)
-    yield "audit: a name that is no text, of no file", Ran("audit", *LINE, folder / os.fsdecode(b"none \xff"), FILES[1]).status == 1
+    none = folder / os.fsdecode(b"none \xff")
+    yield "audit: a name that is no text, of no file", Ran("audit", *LINE, none, FILES[1]).gives(1, b"", f"audit: {re.escape(str(none))}: .*\n")
     yield "audit: numbers with zeros before them", Ran("audit", "005", "01", "1", "002", *FILES).gives(0, BROKE)
     yield "audit: pipes by their names", in_shell(f"./audit {' '.join(LINE)} <(cat {FILES[0]}) <(cat {FILES[1]})").stdout == BROKE
     status, shown = on_terminal(["./audit", *LINE, *FILES])
