@@ -25,22 +25,20 @@ struct Set {
     offered: bool,
 }
 
-const SETS: [Set; 2] = [
-    Set {
-        name: "vectors",
-        calls: include_str!("../../vectors/calls.jsonl"),
-        listings: include_str!("../../vectors/listings.jsonl"),
-        seeds: include_str!("../../vectors/seeds.jsonl"),
-        offered: false,
-    },
-    Set {
-        name: "vectors/offers",
-        calls: include_str!("../../vectors/offers/calls.jsonl"),
-        listings: include_str!("../../vectors/offers/listings.jsonl"),
-        seeds: include_str!("../../vectors/offers/seeds.jsonl"),
-        offered: true,
-    },
-];
+/// The set of a folder, which is named from the repository's top.
+macro_rules! set {
+    ($name:literal, $offered:literal) => {
+        Set {
+            name: $name,
+            calls: include_str!(concat!("../../", $name, "/calls.jsonl")),
+            listings: include_str!(concat!("../../", $name, "/listings.jsonl")),
+            seeds: include_str!(concat!("../../", $name, "/seeds.jsonl")),
+            offered: $offered,
+        }
+    };
+}
+
+const SETS: [Set; 2] = [set!("vectors", false), set!("vectors/offers", true)];
 
 /// How many vectors each set has: of each call, listings, sheets with the listings of noisy runs.
 const HELD: (usize, usize, usize) = (20, 110, 8);
