@@ -6,3 +6,4 @@ pub mod BallotLaws
 pub mod WritingLaws
 pub mod WidthLaws
 pub mod Theorems
+pub mod FromFnLaws

@@ -1,5 +1,5 @@
 -- How many stations pass a test, and whether all do.
-use Rattle.std.specs.Prelude.{ℕ, zero, suc, ◌+◌, Bool, true, false, ◌&&◌, if◌then◌else◌}
+use Rattle.std.specs.Prelude.{ℕ, zero, suc, ◌+◌, Bool, true, ◌&&◌, if◌then◌else◌}
 
 -- how many of the stations 0 to n - 1 pass the test p
 unfoldable pub count : ℕ → (ℕ → Bool) → ℕ
