@@ -21,7 +21,7 @@ use Rattle.offer.specs.Theorems.{kept}
 
 -- the station of this number that a sheet's header opens
 abbrev pub opened_by : List ℕ → ℕ → Station
-opened_by s own = let h = header s in opened_station h.n h.t h.upper h.sender own h.value
+opened_by s own = let h = header s in opened_station h.line.n h.line.t h.line.upper h.sender own h.value
 
 -- .. and after these rows, each by its offer's acceptance
 abbrev pub stepped : Station → List (List ℕ) → Station

@@ -42,7 +42,7 @@ module _ (h : List ℕ) (seed size : ℕ) (e : generate_verdict h seed size ≡ 
   unfolding generate_verdict
   after_length = (both_accepted (header_length h) _ e).1
 
-  taken_stations : 1 ≤ (header h).n
+  taken_stations : 1 ≤ (header h).line.n
   unfolding verdict_to_6
   taken_stations = (number_sound _ _ _ _ _ _ _ (both_accepted (sheet_form h) _ (both_accepted (verdict_to_6 h) _ after_length).0).1).some
 
@@ -56,13 +56,13 @@ tables_rows n t w some = rows_whole n (tables_length n t w) some (ap (λ (k : �
 -- ---- what `generate` promises
 
 module _ (h : List ℕ) (seed : ℕ) (table₀ : List ℕ) {answer : Verdict} (v : answer ≡ generate_verdict h seed (length table₀)) where
-  pub generates_accepted : (table₁ : List ℕ) (r : ℕ) → answer ≡ Accepted → Fills (header h).n (header h).marks seed table₀ table₁ r
+  pub generates_accepted : (table₁ : List ℕ) (r : ℕ) → answer ≡ Accepted → Fills (header h).line.n (header h).marks seed table₀ table₁ r
       → Generates h seed table₀ table₁ answer
   unfolding generated
   generates_accepted table₁ r a f =
       let e = sym v ∙ a in
       let size = taken_size h seed (length table₀) e in
-      let whole : whole_rows (header h).n (length table₀) ≡ true = rw size (tables_rows _ _ _ (taken_stations h seed (length table₀) e)) in
+      let whole : whole_rows (header h).line.n (length table₀) ≡ true = rw size (tables_rows _ _ _ (taken_stations h seed (length table₀) e)) in
       record { judged = judged v; table_is = rw a (rw (whole, size) at f.table_is) }
 
   pub generates_refused : (c : Cause) → answer ≡ Refused c → Generates h seed table₀ table₀ answer

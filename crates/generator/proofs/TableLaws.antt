@@ -89,13 +89,13 @@ module _ (n size : ℕ) where
 
 -- ---- the tables of all bits
 
-pub generated_length : (h : Header) (seed : ℕ) → length (generated h seed) ≡ tables_length h.n h.t h.w
+pub generated_length : (h : Header) (seed : ℕ) → length (generated h seed) ≡ tables_length h.line.n h.line.t h.w
 unfolding generated
-generated_length h seed = noise_length h.n h.marks seed _
+generated_length h seed = noise_length h.line.n h.marks seed _
 
-pub generated_at : (h : Header) (seed k : ℕ) → k < tables_length h.n h.t h.w → get_or (generated h seed) k 0 ≡ byte_at h.n h.marks seed k
+pub generated_at : (h : Header) (seed k : ℕ) → k < tables_length h.line.n h.line.t h.w → get_or (generated h seed) k 0 ≡ byte_at h.line.n h.marks seed k
 unfolding generated
-generated_at h seed k l = noise_at h.n h.marks seed _ k l
+generated_at h seed k l = noise_at h.line.n h.marks seed _ k l
 
 -- a place whose sender is marked, and one whose sender isn't
 pub byte_drawn : (n marks seed p : ℕ) → marked marks (from_at n p) ≡ true → byte_at n marks seed p ≡ ballot (state_after (suc (steps_before n marks p)) seed)
@@ -107,17 +107,17 @@ unfolding byte_at has_step
 byte_silent n marks seed p e = if_false _ _ e
 
 -- a byte by its bit, round, sender and receiver
-pub generated_byte : (h : Header) (seed b r i j : ℕ) → b < bits h.w → 1 ≤ r → r ≤ rounds h.t → i < h.n → j < h.n → Byte h seed b r i j
+pub generated_byte : (h : Header) (seed b r i j : ℕ) → b < bits h.w → 1 ≤ r → r ≤ rounds h.line.t → i < h.line.n → j < h.line.n → Byte h seed b r i j
 generated_byte h seed b r i j hb hr hR hi hj =
-    let size = table_length h.n h.t in
-    let p = b * size + place h.n r i j in
-    let inside : p < bits h.w * size = omega (arith, place_below h.n r i j hr hi hj (rounds h.t) hR, row_within b size (bits h.w) hb) in
-    let sender = from_told h.n h.t b r i j hr hR hi hj in
+    let size = table_length h.line.n h.line.t in
+    let p = b * size + place h.line.n r i j in
+    let inside : p < bits h.w * size = omega (arith, place_below h.line.n r i j hr hi hj (rounds h.line.t) hR, row_within b size (bits h.w) hb) in
+    let sender = from_told h.line.n h.line.t b r i j hr hR hi hj in
     record {
       at = p;
       at_is = refl;
-      drawn = λ e. generated_at h seed p inside ∙ byte_drawn h.n h.marks seed p (rw sender e);
-      silent = λ e. generated_at h seed p inside ∙ byte_silent h.n h.marks seed p (rw sender e);
+      drawn = λ e. generated_at h seed p inside ∙ byte_drawn h.line.n h.marks seed p (rw sender e);
+      silent = λ e. generated_at h seed p inside ∙ byte_silent h.line.n h.marks seed p (rw sender e);
     }
 
 -- ---- the state runs on
@@ -154,30 +154,30 @@ some_stations zero t k l = absurd (omega (arith, mul-zero (rounds t * 0)))
 some_stations (suc n) t k l = omega arith
 
 pub bits_run_on : (h : Header) (seed b : ℕ) → b < bits h.w
-    → part_of (table_length h.n h.t) (generated h seed) b ≡ noise h.n h.marks (bit_state h seed b) (table_length h.n h.t)
+    → part_of (table_length h.line.n h.line.t) (generated h seed) b ≡ noise h.line.n h.marks (bit_state h seed b) (table_length h.line.n h.line.t)
 unfolding bit_state
 bits_run_on h seed b l =
-    let size = table_length h.n h.t in
+    let size = table_length h.line.n h.line.t in
     let whole = part_size size (generated h seed) b (bits h.w) l (generated_length h seed) in
-    ext_get_or 0 _ _ (whole ∙ sym (noise_length h.n h.marks (bit_state h seed b) size))
+    ext_get_or 0 _ _ (whole ∙ sym (noise_length h.line.n h.marks (bit_state h seed b) size))
     (λ k q.
     let s : k < size = rw whole at q in
     part_at size (generated h seed) b k s
     ∙ generated_at h seed (b * size + k) (omega (arith, s, row_within b size (bits h.w) l))
-    ∙ rw (bit_start h.n h.t b) (byte_again h.n h.marks (b * rounds h.t) (some_stations h.n h.t k s) seed k)
-    ∙ sym (noise_at h.n h.marks (bit_state h seed b) size k s))
+    ∙ rw (bit_start h.line.n h.line.t b) (byte_again h.line.n h.marks (b * rounds h.line.t) (some_stations h.line.n h.line.t k s) seed k)
+    ∙ sym (noise_at h.line.n h.marks (bit_state h seed b) size k s))
 
 -- and goes on by one bit
-pub state_next_bit : (h : Header) (seed b : ℕ) → 1 ≤ h.n
-    → state_after (steps_before h.n h.marks (table_length h.n h.t)) (bit_state h seed b) ≡ bit_state h seed (b + 1)
+pub state_next_bit : (h : Header) (seed b : ℕ) → 1 ≤ h.line.n
+    → state_after (steps_before h.line.n h.marks (table_length h.line.n h.line.t)) (bit_state h seed b) ≡ bit_state h seed (b + 1)
 unfolding bit_state
 state_next_bit h seed b some =
-    let size = table_length h.n h.t in
+    let size = table_length h.line.n h.line.t in
     let e : (b + 1) * size ≡ b * size + size = next_row b size in
-    sym (ap (λ (k : ℕ). state_after (steps_before h.n h.marks k) seed) e
-    ∙ ap (λ (k : ℕ). state_after k seed) (rw (bit_start h.n h.t b) (steps_again h.n h.marks (b * rounds h.t) some size))
-    ∙ runs_on (steps_before h.n h.marks (b * size)) (steps_before h.n h.marks size) seed)
+    sym (ap (λ (k : ℕ). state_after (steps_before h.line.n h.marks k) seed) e
+    ∙ ap (λ (k : ℕ). state_after k seed) (rw (bit_start h.line.n h.line.t b) (steps_again h.line.n h.marks (b * rounds h.line.t) some size))
+    ∙ runs_on (steps_before h.line.n h.marks (b * size)) (steps_before h.line.n h.marks size) seed)
 
 pub state_first_bit : (h : Header) (seed : ℕ) → seed ≡ bit_state h seed 0
 unfolding bit_state steps_before count state_after
-state_first_bit h seed = rw (zero-mul (table_length h.n h.t))
+state_first_bit h seed = rw (zero-mul (table_length h.line.n h.line.t))

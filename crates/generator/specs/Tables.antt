@@ -34,8 +34,8 @@ noise n marks seed size = tabulate size (byte_at n marks seed)
 
 -- the tables of all bits
 unfoldable pub generated : Header → ℕ → List ℕ
-generated h seed = noise h.n h.marks seed (tables_length h.n h.t h.w)
+generated h seed = noise h.line.n h.marks seed (tables_length h.line.n h.line.t h.w)
 
 -- the state that the tables of the bits below b leave, from which bit b's table comes (`BitsRunOn`)
 unfoldable pub bit_state : Header → (seed b : ℕ) → ℕ
-bit_state h seed b = state_after (steps_before h.n h.marks (b * table_length h.n h.t)) seed
+bit_state h seed b = state_after (steps_before h.line.n h.marks (b * table_length h.line.n h.line.t)) seed

@@ -24,22 +24,22 @@ StepsCountedLaw = (n marks p : ℕ) → StepsCounted n marks p
 -- the byte of bit b for round r, from station i, to j, both counted from 0
 pub record Byte (h : Header) (seed b r i j : ℕ) : Type 0 where
   pub at : ℕ
-  pub at_is : at ≡ b * table_length h.n h.t + place h.n r i j
+  pub at_is : at ≡ b * table_length h.line.n h.line.t + place h.line.n r i j
   -- a marked sender's is of the state after one step more than come before its place
-  pub drawn : marked h.marks i ≡ true → get_or (generated h seed) at 0 ≡ ballot (state_after (suc (steps_before h.n h.marks at)) seed)
+  pub drawn : marked h.marks i ≡ true → get_or (generated h seed) at 0 ≡ ballot (state_after (suc (steps_before h.line.n h.marks at)) seed)
   -- "Other bytes are 255."
   pub silent : marked h.marks i ≡ false → get_or (generated h seed) at 0 ≡ 255
 
 abbrev pub GeneratedBytes : Type 0
 GeneratedBytes =
-    (h : Header) (seed b r i j : ℕ) → b < bits h.w → 1 ≤ r → r ≤ rounds h.t → i < h.n → j < h.n → Byte h seed b r i j
+    (h : Header) (seed b r i j : ℕ) → b < bits h.w → 1 ≤ r → r ≤ rounds h.line.t → i < h.line.n → j < h.line.n → Byte h seed b r i j
 
 abbrev pub GeneratedLength : Type 0
-GeneratedLength = (h : Header) (seed : ℕ) → length (generated h seed) ≡ tables_length h.n h.t h.w
+GeneratedLength = (h : Header) (seed : ℕ) → length (generated h seed) ≡ tables_length h.line.n h.line.t h.w
 
 -- "With several bits the state runs on from one bit's table to the next.": bit b's table is what comes from the state that all bits below it leave
 abbrev pub BitsRunOn : Type 0
 BitsRunOn =
     (h : Header) (seed b : ℕ) → b < bits h.w
-    → part_of (table_length h.n h.t) (generated h seed) b
-    ≡ noise h.n h.marks (bit_state h seed b) (table_length h.n h.t)
+    → part_of (table_length h.line.n h.line.t) (generated h seed) b
+    ≡ noise h.line.n h.marks (bit_state h seed b) (table_length h.line.n h.line.t)

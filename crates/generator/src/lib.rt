@@ -43,7 +43,7 @@ pub fn generate(header: &[u8], seed: u32, table: &mut [u8]) -> Verdict
     let verdict = judge(header, seed, table.len());
     if let Verdict::Accepted = verdict {
         let h = layout::header_of(header);
-        fill(h.n, h.marks, seed, table);
+        fill(h.line.n, h.marks, seed, table);
     }
     verdict
 }

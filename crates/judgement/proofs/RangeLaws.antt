@@ -101,7 +101,7 @@ module _ (n last bits : ℕ) (r : numbers.Record) where
 
 -- a record of a sheet, judged by its numbers
 pub judged_by_numbers : (s : List ℕ) (i : ℕ) → Record s i
-    → numbers_verdict (header s).n (rounds (header s).t) (bits (header s).w) (header s).marks (record_at s i) ≡ record_form s i or_else unmarked_sender s i
+    → numbers_verdict (header s).line.n (rounds (header s).line.t) (bits (header s).w) (header s).marks (record_at s i) ≡ record_form s i or_else unmarked_sender s i
 unfolding numbers_verdict out_of_place record_form misplaced unmarked_sender
 judged_by_numbers s i r = rw (round_is s i r, from_is s i r, to_is s i r, bit_is s i r, rest_is s i r)
 

@@ -29,7 +29,7 @@ header_length h = refused_if (not (eqb (length h) 12)) SheetForm
 unfoldable pub verdict_to_6 : List ℕ → Verdict
 verdict_to_6 s =
     let h = header s in
-    sheet_form s or_else number_verdict h.n h.t h.upper h.sender h.value h.w h.marks
+    sheet_form s or_else number_verdict h.line.n h.line.t h.line.upper h.sender h.value h.w h.marks
 
 -- "The lowest number wins up to 8.": with a lent table for all bits, of this length
 unfoldable pub verdict_to_8 : List ℕ → ℕ → Verdict
@@ -51,9 +51,9 @@ bit_to_8 s b table_size = verdict_to_6 s or_else exact_length (table_wanted s) t
 -- record with index i
 unfoldable pub misplaced : List ℕ → ℕ → Bool
 misplaced s i =
-    outside 1 (rounds (header s).t) (round s i)
-    || outside 1 (header s).n (from s i)
-    || outside 1 (header s).n (to s i)
+    outside 1 (rounds (header s).line.t) (round s i)
+    || outside 1 (header s).line.n (from s i)
+    || outside 1 (header s).line.n (to s i)
     || leb (bits (header s).w) (bit s i)
     || not (eqb (rest s i) 0)
 

@@ -31,12 +31,7 @@ pub fn to_6(sheet: &[u8]) -> Verdict
         return Verdict::Refused(Cause::SheetForm);
     }
     let h = layout::header_of(sheet);
-    let line = Line {
-        n: h.n,
-        t: h.t,
-        upper: h.upper,
-    };
-    header::number_verdict(line, h.sender, h.value, h.w, h.marks)
+    header::number_verdict(h.line, h.sender, h.value, h.w, h.marks)
 }
 
 // Causes 1, 15 and 2 to 8, with a buffer for all bits' tables.

@@ -18,15 +18,15 @@ four s i = two s i + 65536 * two s (i + 2)
 -- "Header: byte 0 n, 1 t, 2 T, 3 sender, 4 value, [..] 8–11 the marks"; request 5: "Sheet byte 5 holds w, 0 standing for 1 there [..], and byte 4 the number."
 unfoldable pub header : List ℕ → Header
 header s =
-    record { n = byte s 0; t = byte s 1; upper = byte s 2; sender = byte s 3; value = byte s 4; w = byte s 5; marks = four s 8 }
+    record { line = record { n = byte s 0; t = byte s 1; upper = byte s 2 }; sender = byte s 3; value = byte s 4; w = byte s 5; marks = four s 8 }
 
 -- the length of one bit's table on the sheet's line; where the sheet has no whole header, that of the bytes there are, and zeros
 abbrev pub table_wanted : List ℕ → ℕ
-table_wanted s = table_length (header s).n (header s).t
+table_wanted s = table_length (header s).line.n (header s).line.t
 
 -- and of all bits' tables (request 5)
 abbrev pub tables_wanted : List ℕ → ℕ
-tables_wanted s = tables_length (header s).n (header s).t (header s).w
+tables_wanted s = tables_length (header s).line.n (header s).line.t (header s).w
 
 -- "6–7 index of the first record or 0"
 unfoldable pub first : List ℕ → ℕ

@@ -21,9 +21,7 @@ fn constants_agree()
 // The numbers of a sheet's header. `value` is the number that the sender sends, of w bits.
 #[derive(Clone, Copy)]
 pub struct Header {
-    pub n: u8,
-    pub t: u8,
-    pub upper: u8,
+    pub line: Line,
     pub sender: u8,
     pub value: u8,
     pub w: u8,
@@ -56,9 +54,11 @@ pub fn header_of(sheet: &[u8]) -> Header
     let low = two(slices::at(sheet, 8), slices::at(sheet, 9));
     let high = two(slices::at(sheet, 10), slices::at(sheet, 11));
     Header {
-        n: slices::at(sheet, 0),
-        t: slices::at(sheet, 1),
-        upper: slices::at(sheet, 2),
+        line: Line {
+            n: slices::at(sheet, 0),
+            t: slices::at(sheet, 1),
+            upper: slices::at(sheet, 2),
+        },
         sender: slices::at(sheet, 3),
         value: slices::at(sheet, 4),
         w: slices::at(sheet, 5),

@@ -59,7 +59,7 @@ module _ (s : List ℕ) (f : Fate s) (v : verdict s f ≡ Accepted) where
 
 module _ (s : List ℕ) (h : Header) (table bytes results : List ℕ) where
   -- the first is read
-  pub bits_begin : Begun s h table bytes → length results ≡ outcomes_length h.n → BitsRun s h 0 table bytes results
+  pub bits_begin : Begun s h table bytes → length results ≡ outcomes_length h.line.n → BitsRun s h 0 table bytes results
   bits_begin B whole = record {
     fate = B.fate;
     accepted = B.accepted;
@@ -69,7 +69,7 @@ module _ (s : List ℕ) (h : Header) (table bytes results : List ℕ) where
   }
 
   -- its line has at most 32 stations
-  pub few : Begun s h table bytes → h.n ≤ 32
+  pub few : Begun s h table bytes → h.line.n ≤ 32
   few B = rw B.header_is (sound s B.fate B.accepted).most
 
   module _ (b : ℕ) (P : BitsRun s h b table bytes results) (more : b < bits h.w) (table₁ bytes₁ results₁ : List ℕ)

@@ -54,11 +54,11 @@ station_digits i h = go (ltb i 9) refl
 first_short : (h : Header) → SoundHeader h → length (line_text (first_line h)) ≤ 21
 first_short h sound =
     let fits = sound.fits in
-    let n = two_digits h.n (omega (arith, sound.most)) in
-    let t = two_digits h.t (omega (arith, sound.most, fits.order, fits.room)) in
-    let upper = two_digits h.upper (omega (arith, sound.most, fits.room)) in
+    let n = two_digits h.line.n (omega (arith, sound.most)) in
+    let t = two_digits h.line.t (omega (arith, sound.most, fits.order, fits.room)) in
+    let upper = two_digits h.line.upper (omega (arith, sound.most, fits.room)) in
     let sender = two_digits h.sender (omega (arith, sound.most, sound.sender_high)) in
-    let last = two_digits (rounds h.t) (omega (arith, sound.most, fits.order, fits.room)) in
+    let last = two_digits (rounds h.line.t) (omega (arith, sound.most, fits.order, fits.room)) in
     simp length-append (omega arith)
 
 -- the stations of a number's run, with counts of at most `digits` digits
@@ -111,7 +111,7 @@ module _ (N : NumberRun) (most : N.n ≤ 32) (digits : ℕ) (some : 1 ≤ digits
 
 module _ (h : Header) (tables : List ℕ) (sound : SoundHeader h) where
   -- the stations' lines: no station is bad, and every count is 0; or one is, and a count is at most R
-  lines_short : length (text (station_lines (number_outcomes (run h tables)) 0 h.n)) ≤ 436
+  lines_short : length (text (station_lines (number_outcomes (run h tables)) 0 h.line.n)) ≤ 436
   lines_short = go (eq-zero-or-pos (count N.n (marked N.marks)))
     where
       N : NumberRun
@@ -136,7 +136,7 @@ module _ (h : Header) (tables : List ℕ) (sound : SoundHeader h) where
   pub run_short : length (text (lines_by Accepted h (number_outcomes (run h tables)))) ≤ longest_listing
   run_short =
       let first = line_text (first_line h) in
-      let rest = text (station_lines (number_outcomes (run h tables)) 0 h.n) in
+      let rest = text (station_lines (number_outcomes (run h tables)) 0 h.line.n) in
       omega (arith, length-append first rest, first_short h sound, lines_short)
 
 -- ---- a listing

@@ -23,7 +23,7 @@ module _ (s : List ℕ) (fate : Fate s) where
   front_wanted : SoundHeader (header s) → (table log : ℕ) → largest_table ≤ table → largest_table ≤ log → front s table log ≡ table_wanted s
   unfolding front
   front_wanted sound table log ht hl =
-      let fits = table_bound (header s).n (header s).t (header s).upper sound.most sound.fits in
+      let fits = table_bound (header s).line.n (header s).line.t (header s).line.upper sound.most sound.fits in
       rw (min-eq_left (le_trans fits ht)) (min-eq_left (le_trans fits hl))
 
   module _ (table log : ℕ) (ht : largest_table ≤ table) (hl : largest_table ≤ log) where

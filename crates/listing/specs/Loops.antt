@@ -20,7 +20,7 @@ use Rattle.listing.specs.Promise.{last_bit, lent_verdict, listing}
 -- bit b of a header's number, whatever the call answered
 pub record BitRehearsed (h : Header) (b : ℕ) (table log₀ log₁ outcomes₀ outcomes₁ : List ℕ) : Type 0 where
   pub answer : Verdict
-  pub rehearsed : RehearsedBit b (run_of h.n h.t h.upper h.sender (bit_of h.value b) h.marks table) log₀ log₁ outcomes₀ outcomes₁ answer
+  pub rehearsed : RehearsedBit b (run_of h.line.n h.line.t h.line.upper h.sender (bit_of h.value b) h.marks table) log₀ log₁ outcomes₀ outcomes₁ answer
 
 -- an accepted sheet with its header, its first bit's table, and a log as long
 pub record Begun (s : List ℕ) (h : Header) (table bytes : List ℕ) : Type 0 where

@@ -14,13 +14,8 @@ use reader::Reading;
 fn rehearse_bit(header: Header, b: u8, table: &[u8], log: &mut [u8], outcomes: &mut [u8])
     ensures { BitRehearsed header b table.now log.old log.new outcomes.old outcomes.new }
 {
-    let line = Line {
-        n: header.n,
-        t: header.t,
-        upper: header.upper,
-    };
     recipe::bit(
-        line,
+        header.line,
         header.sender,
         header.value,
         b,
@@ -89,7 +84,7 @@ fn list_run(
     ensures { ListsRun sheet.now table.new log.new text.old text.new result }
 {
     let mut outcomes = [0u8; Line::LARGEST_OUTCOMES];
-    let m = Line::OUTCOME * (header.n as usize);
+    let m = Line::OUTCOME * (header.line.n as usize);
     list_outcomes(header, sheet, table, log, &mut outcomes[..m], text)
 }
 

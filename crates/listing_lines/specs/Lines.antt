@@ -21,7 +21,7 @@ pub data Field : Type 0 where
 
 -- "First line: the fixed word `agree`, then n, t, T, sender, R."
 abbrev pub first_line : Header → List Field
-first_line h = agree ∷ num h.n ∷ num h.t ∷ num h.upper ∷ num h.sender ∷ num (rounds h.t) ∷ []
+first_line h = agree ∷ num h.line.n ∷ num h.line.t ∷ num h.line.upper ∷ num h.sender ∷ num (rounds h.line.t) ∷ []
 
 -- "a line a station: number, value, grade, flag", and request 4: "the listing gets the count as its last field: [..] its last line has four dashes":
 -- station i, counted from 0, by the outcome bytes. Request 5: "A bad station is told by grade 255, since 255 can be a recipe."
@@ -38,7 +38,7 @@ station_lines bytes i (suc m) = station_line bytes i ∷ station_lines bytes (su
 
 -- "A refusal prints the one line `refused` and the number."
 abbrev pub lines_by : Verdict → Header → List ℕ → List (List Field)
-lines_by Accepted h bytes = first_line h ∷ station_lines bytes 0 h.n
+lines_by Accepted h bytes = first_line h ∷ station_lines bytes 0 h.line.n
 lines_by (Refused c) h bytes = (refused ∷ num (number c) ∷ []) ∷ []
 
 -- ---- from the sheet to its listing
@@ -46,7 +46,7 @@ lines_by (Refused c) h bytes = (refused ∷ num (number c) ∷ []) ∷ []
 -- the run that a sheet's header and its bits' tables make
 abbrev pub run : Header → List ℕ → NumberRun
 run h tables =
-    record { n = h.n; t = h.t; T = h.upper; sender = h.sender; number = h.value; w = h.w; marks = h.marks; tables = tables }
+    record { n = h.line.n; t = h.line.t; T = h.line.upper; sender = h.sender; number = h.value; w = h.w; marks = h.marks; tables = tables }
 
 -- the verdict on a sheet that is read into tables of its line's own length
 unfoldable pub verdict : (s : List ℕ) → Fate s → Verdict

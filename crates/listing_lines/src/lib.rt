@@ -14,17 +14,12 @@ use line::Line;
 fn first_line(out: &mut [u8], at: usize, header: Header) -> usize
     ensures { Puts out.old out.new at (line_text (first_line header)) result }
 {
-    let line = Line {
-        n: header.n,
-        t: header.t,
-        upper: header.upper,
-    };
     let a = text::word(out, at, b"agree");
-    let b = text::field(out, a, header.n as u64);
-    let c = text::field(out, b, header.t as u64);
-    let d = text::field(out, c, header.upper as u64);
+    let b = text::field(out, a, header.line.n as u64);
+    let c = text::field(out, b, header.line.t as u64);
+    let d = text::field(out, c, header.line.upper as u64);
     let e = text::field(out, d, header.sender as u64);
-    let f = text::field(out, e, line.rounds() as u64);
+    let f = text::field(out, e, header.line.rounds() as u64);
     text::byte(out, f, b'\n')
 }
 
@@ -83,7 +78,7 @@ pub fn of_run(out: &mut [u8], at: usize, header: Header, outcomes: &[u8]) -> usi
     ensures { Puts out.old out.new at (text (lines_by Accepted header outcomes.now)) result }
 {
     let a = first_line(out, at, header);
-    station_lines(out, a, header.n, outcomes)
+    station_lines(out, a, header.line.n, outcomes)
 }
 
 // The one line of a refusal.

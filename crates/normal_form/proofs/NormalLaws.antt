@@ -44,21 +44,21 @@ module _ (s : List ℕ) (l : ℕ) (f : Fate s) (v : sheet_verdict s l f ≡ Acce
   -- ---- the table
 
   -- unmarked senders are silent in it
-  silent_there : (p : ℕ) → p < tables_wanted s → marked (header s).marks (from_at (header s).n p) ≡ false
+  silent_there : (p : ℕ) → p < tables_wanted s → marked (header s).marks (from_at (header s).line.n p) ≡ false
       → get_or (table_of s f) p 0 ≡ 255
   silent_there p u e =
-      let n = (header s).n in
-      let t = (header s).t in
+      let n = (header s).line.n in
+      let t = (header s).line.t in
       let w = told n t (header s).w p u in
       rw w.place_is at
       (unmarked_silent s l f v (bit_at n t p) (round_at n t p) (from_at n p) (to_at n p) w.bit_below w.round_low w.round_high w.from_below w.to_below e)
 
   -- so what is written is what is not silent
-  write_is_loud : (p : ℕ) → p < tables_wanted s → to_write (header s).n (header s).marks (table_of s f) p ≡ loud (table_of s f) p
+  write_is_loud : (p : ℕ) → p < tables_wanted s → to_write (header s).line.n (header s).marks (table_of s f) p ≡ loud (table_of s f) p
   unfolding to_write loud
-  write_is_loud p u = go (marked (header s).marks (from_at (header s).n p)) refl
+  write_is_loud p u = go (marked (header s).marks (from_at (header s).line.n p)) refl
     where
-      go : (b : Bool) → marked (header s).marks (from_at (header s).n p) ≡ b
+      go : (b : Bool) → marked (header s).marks (from_at (header s).line.n p) ≡ b
           → b && not (eqb (get_or (table_of s f) p 0) silence) ≡ not (eqb (get_or (table_of s f) p 0) silence)
       go true e = refl
       go false e = rw (silent_there p u e)
@@ -66,9 +66,9 @@ module _ (s : List ℕ) (l : ℕ) (f : Fate s) (v : sheet_verdict s l f ≡ Acce
   -- and all of it is kept
   pub all_kept : (p : ℕ) → p < tables_wanted s → kept (header s) (table_of s f) p ≡ get_or (table_of s f) p 0
   unfolding kept
-  all_kept p u = go (marked (header s).marks (from_at (header s).n p)) refl
+  all_kept p u = go (marked (header s).marks (from_at (header s).line.n p)) refl
     where
-      go : (b : Bool) → marked (header s).marks (from_at (header s).n p) ≡ b
+      go : (b : Bool) → marked (header s).marks (from_at (header s).line.n p) ≡ b
           → (if b then get_or (table_of s f) p 0 else silence) ≡ get_or (table_of s f) p 0
       go true e = refl
       go false e = sym (silent_there p u e)
@@ -81,7 +81,7 @@ module _ (s : List ℕ) (l : ℕ) (f : Fate s) (v : sheet_verdict s l f ≡ Acce
   number_written m e =
       let (k, (d, (w, t))) = accepted_ends s l f v in
       let n = tables_wanted s in
-      let a = count_same n (to_write (header s).n (header s).marks (table_of s f)) (loud (table_of s f)) write_is_loud in
+      let a = count_same n (to_write (header s).line.n (header s).marks (table_of s f)) (loud (table_of s f)) write_is_loud in
       let b : count n (loud (table_of s f)) ≡ count k (speaking s) = rw t (filled_loud s k w) in
       a ∙ b ∙ ap (λ (i : ℕ). count i (speaking s)) (one_length s k m d e)
 
@@ -111,8 +111,8 @@ module _ (s : List ℕ) (l : ℕ) (f : Fate s) (v : sheet_verdict s l f ≡ Acce
         judged_place s a (judged s m a w (before_end s m a e q))
 
     -- its place is written
-    found : (count (place_of s (reached s a)) (to_write (header s).n (header s).marks (table_of s f)) < how_many (header s) (table_of s f))
-        × (place_written (header s) (table_of s f) (count (place_of s (reached s a)) (to_write (header s).n (header s).marks (table_of s f)) + 1)
+    found : (count (place_of s (reached s a)) (to_write (header s).line.n (header s).marks (table_of s f)) < how_many (header s) (table_of s f))
+        × (place_written (header s) (table_of s f) (count (place_of s (reached s a)) (to_write (header s).line.n (header s).marks (table_of s f)) + 1)
         ≡ place_of s (reached s a))
     unfolding speaking
     found =
@@ -128,18 +128,18 @@ module _ (s : List ℕ) (l : ℕ) (f : Fate s) (v : sheet_verdict s l f ≡ Acce
         let h = take 12 s in
         let table = table_of s f in
         let r = sheet h table in
-        let n = (header s).n in
+        let n = (header s).line.n in
         let p = place_of s (reached s a) in
-        let i = count p (to_write (header s).n (header s).marks table) + 1 in
+        let i = count p (to_write (header s).line.n (header s).marks table) + 1 in
         let (u, g) = found in
         let hd = front_header s in
         let low : 1 ≤ i = omega arith in
         let high : i ≤ how_many (header h) table = rw hd (omega arith) in
-        let x : round r i ≡ p / n / n % rounds (header s).t + 1 = bytes.round_is h table i low high ∙ rw (hd, g) in
+        let x : round r i ≡ p / n / n % rounds (header s).line.t + 1 = bytes.round_is h table i low high ∙ rw (hd, g) in
         let y : from r i ≡ p / n % n + 1 = bytes.from_is h table i low high ∙ rw (hd, g) in
         let z : to r i ≡ p % n + 1 = bytes.to_is h table i low high ∙ rw (hd, g) in
         let b : ballot r i ≡ get_or table p 0 = bytes.ballot_is h table i low high ∙ rw (hd, g) in
-        let c : bit r i ≡ p / n / n / rounds (header s).t = bytes.bit_is h table i low high ∙ rw (hd, g) in (
+        let c : bit r i ≡ p / n / n / rounds (header s).line.t = bytes.bit_is h table i low high ∙ rw (hd, g) in (
           i,
           record {
             a_record = is_record h table i low high;

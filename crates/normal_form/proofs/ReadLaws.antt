@@ -44,16 +44,16 @@ module _ (h table : List ℕ) where
   -- ---- one record
 
   module _ (m : ℕ) (some : 1 ≤ m) (most : m ≤ how_many (header h) table) where
-    from_is : from (sheet h table) m - 1 ≡ from_at (header h).n (place_written (header h) table m)
+    from_is : from (sheet h table) m - 1 ≡ from_at (header h).line.n (place_written (header h) table m)
     from_is = omega (arith, bytes.from_is h table m some most)
 
-    to_is : to (sheet h table) m - 1 ≡ to_at (header h).n (place_written (header h) table m)
+    to_is : to (sheet h table) m - 1 ≡ to_at (header h).line.n (place_written (header h) table m)
     to_is = omega (arith, bytes.to_is h table m some most)
 
     -- its numbers are in their ranges
     in_place : InPlace (sheet h table) m
     in_place =
-        let w = told (header h).n (header h).t (header h).w (place_written (header h) table m) (written_is (header h) table m some most).below in
+        let w = told (header h).line.n (header h).line.t (header h).w (place_written (header h) table m) (written_is (header h) table m some most).below in
         let r = bytes.round_is h table m some most in
         let f = bytes.from_is h table m some most in
         let t = bytes.to_is h table m some most in
@@ -71,7 +71,7 @@ module _ (h table : List ℕ) where
     pub place_is : place_of (sheet h table) m ≡ place_written (header h) table m
     unfolding place_of
     place_is =
-        let w = told (header h).n (header h).t (header h).w (place_written (header h) table m) (written_is (header h) table m some most).below in
+        let w = told (header h).line.n (header h).line.t (header h).w (place_written (header h) table m) (written_is (header h) table m some most).below in
         rw (written_header h table, bytes.bit_is h table m some most, bytes.round_is h table m some most, from_is, to_is) w.place_is
 
     -- 11
@@ -83,7 +83,7 @@ module _ (h table : List ℕ) where
     marked_sender : marked (header (sheet h table)).marks (from (sheet h table) m - 1) ≡ true
     marked_sender =
         rw (written_header h table, from_is)
-        (write_marked (header h).n (header h).marks table (place_written (header h) table m) (written_is (header h) table m some most).passes)
+        (write_marked (header h).line.n (header h).marks table (place_written (header h) table m) (written_is (header h) table m some most).passes)
 
   -- ---- the chain's records
 
@@ -123,11 +123,11 @@ module _ (h table : List ℕ) where
   -- ---- the table
 
   module _ (p : ℕ) where
-    kept_marked : marked (header h).marks (from_at (header h).n p) ≡ true → kept (header h) table p ≡ get_or table p 0
+    kept_marked : marked (header h).marks (from_at (header h).line.n p) ≡ true → kept (header h) table p ≡ get_or table p 0
     unfolding kept
     kept_marked e = rw e
 
-    kept_unmarked : marked (header h).marks (from_at (header h).n p) ≡ false → kept (header h) table p ≡ 255
+    kept_unmarked : marked (header h).marks (from_at (header h).line.n p) ≡ false → kept (header h) table p ≡ 255
     unfolding kept
     kept_unmarked e = rw e
 
@@ -135,7 +135,7 @@ module _ (h table : List ℕ) where
   filled_whole = rw (filled_length (sheet h table) (how_many (header h) table), written_header h table)
 
   -- a byte that is not written is read as silence
-  filled_silent : (p : ℕ) → p < tables_wanted h → to_write (header h).n (header h).marks table p ≡ false
+  filled_silent : (p : ℕ) → p < tables_wanted h → to_write (header h).line.n (header h).marks table p ≡ false
       → get_or (filled (sheet h table) (how_many (header h) table)) p 0 ≡ 255
   filled_silent p l e =
       let s = sheet h table in
@@ -144,17 +144,17 @@ module _ (h table : List ℕ) where
       (λ a u q.
       let f = (written_is (header h) table (a + 1) (omega arith) (omega arith)).passes in
       let g : place_written (header h) table (a + 1) ≡ p = sym (place_at a u) ∙ q in
-      let f' : to_write (header h).n (header h).marks table p ≡ true = rw g at f in
+      let f' : to_write (header h).line.n (header h).marks table p ≡ true = rw g at f in
       let z : ◌≡◌ {A = ℕ} 0 1 = cc in
       omega arith)
 
   -- one that is written is read as it was
-  filled_written : (p : ℕ) → p < tables_wanted h → to_write (header h).n (header h).marks table p ≡ true
+  filled_written : (p : ℕ) → p < tables_wanted h → to_write (header h).line.n (header h).marks table p ≡ true
       → get_or (filled (sheet h table) (how_many (header h) table)) p 0 ≡ get_or table p 0
   filled_written p l e =
       let s = sheet h table in
       let k = how_many (header h) table in
-      let a = count p (to_write (header h).n (header h).marks table) in
+      let a = count p (to_write (header h).line.n (header h).marks table) in
       let (u, g) = written_back (header h) table p l e in
       let x : place_of s (reached s a) ≡ p = place_at a u ∙ g in
       let z : ballot s (reached s a) ≡ get_or table (place_written (header h) table (a + 1)) 0 =
@@ -163,12 +163,12 @@ module _ (h table : List ℕ) where
 
   pub filled_kept : (p : ℕ) → p < tables_wanted h
       → get_or (filled (sheet h table) (how_many (header h) table)) p 0 ≡ kept (header h) table p
-  filled_kept p l = go (to_write (header h).n (header h).marks table p) (marked (header h).marks (from_at (header h).n p)) refl refl
+  filled_kept p l = go (to_write (header h).line.n (header h).marks table p) (marked (header h).marks (from_at (header h).line.n p)) refl refl
     where
-      go : (b c : Bool) → to_write (header h).n (header h).marks table p ≡ b → marked (header h).marks (from_at (header h).n p) ≡ c
+      go : (b c : Bool) → to_write (header h).line.n (header h).marks table p ≡ b → marked (header h).marks (from_at (header h).line.n p) ≡ c
           → get_or (filled (sheet h table) (how_many (header h) table)) p 0 ≡ kept (header h) table p
-      go true c e f = filled_written p l e ∙ sym (kept_marked p (write_marked (header h).n (header h).marks table p e))
-      go false true e f = filled_silent p l e ∙ sym (write_not (header h).n (header h).marks table p e f) ∙ sym (kept_marked p f)
+      go true c e f = filled_written p l e ∙ sym (kept_marked p (write_marked (header h).line.n (header h).marks table p e))
+      go false true e f = filled_silent p l e ∙ sym (write_not (header h).line.n (header h).marks table p e f) ∙ sym (kept_marked p f)
       go false false e f = filled_silent p l e ∙ sym (kept_unmarked p f)
 
   -- ---- its form
@@ -184,7 +184,7 @@ module _ (h table : List ℕ) where
     ends_there = rw (bytes.records_are h table) (chain_ends h table);
     spoken = λ i r.
         rw (bytes.ballot_is h table i r.low (within i r))
-        (write_loud (header h).n (header h).marks table (place_written (header h) table i) (written_is (header h) table i r.low (within i r)).passes);
+        (write_loud (header h).line.n (header h).marks table (place_written (header h) table i) (written_is (header h) table i r.low (within i r)).passes);
     in_order = λ i j r q l.
         rw (place_is i r.low (within i r), place_is j q.low (within j q))
         ((in_order (header h) table).increasing i j r.low l (within j q));

@@ -96,15 +96,15 @@ module _ (h table : List ℕ) where
         ap (λ (i : ℕ). get_or (header_bytes h k ++ recs) i 0) z ∙ get_or-append-add (header_bytes h k) recs (8 * (m - 1) + c) 0
         ∙ records_at (header h) table k k (m - 1) c (omega arith) l ∙ ap (λ (i : ℕ). get_or (record_bytes (header h) table k i) c 0) e
 
-    pub round_is : round (sheet h table) m ≡ round_at (header h).n (header h).t (place_written (header h) table m)
+    pub round_is : round (sheet h table) m ≡ round_at (header h).line.n (header h).line.t (place_written (header h) table m)
     unfolding round record_bytes record_of eight
     round_is = rw add-zero at (record_at 0 (omega arith))
 
-    pub from_is : from (sheet h table) m ≡ from_at (header h).n (place_written (header h) table m) + 1
+    pub from_is : from (sheet h table) m ≡ from_at (header h).line.n (place_written (header h) table m) + 1
     unfolding from record_bytes record_of eight
     from_is = record_at 1 (omega arith)
 
-    pub to_is : to (sheet h table) m ≡ to_at (header h).n (place_written (header h) table m) + 1
+    pub to_is : to (sheet h table) m ≡ to_at (header h).line.n (place_written (header h) table m) + 1
     unfolding to record_bytes record_of eight
     to_is = record_at 2 (omega arith)
 
@@ -118,7 +118,7 @@ module _ (h table : List ℕ) where
         let e : start m + 4 + 1 ≡ start m + 5 = omega arith in
         rw (e, record_at 4 (omega arith), record_at 5 (omega arith)) (two_bytes _)
 
-    pub bit_is : bit (sheet h table) m ≡ bit_at (header h).n (header h).t (place_written (header h) table m)
+    pub bit_is : bit (sheet h table) m ≡ bit_at (header h).line.n (header h).line.t (place_written (header h) table m)
     unfolding bit record_bytes record_of eight
     bit_is = record_at 6 (omega arith)
 

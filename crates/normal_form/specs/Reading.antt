@@ -13,7 +13,7 @@ use Rattle.writer.specs.Sheet.{sheet}
 
 -- the byte at the place p that is given back: the tables' where its sender is marked, otherwise 255, whatever stood there
 unfoldable pub kept : Header → List ℕ → ℕ → ℕ
-kept h table p = if marked h.marks (from_at h.n p) then get_or table p 0 else silence
+kept h table p = if marked h.marks (from_at h.line.n p) then get_or table p 0 else silence
 
 -- the written sheet, read
 pub record ReadBack (h table : List ℕ) : Type 0 where

@@ -18,42 +18,42 @@ use Rattle.reader.specs.Loops.{SoundHeader}
 
 -- a record's numbers, where cause 11 lets it through
 abbrev pub InPlace : List ℕ → ℕ → Type 0
-InPlace s i = InRange (header s).n (rounds (header s).t) (bits (header s).w) (round s i) (from s i) (to s i) (bit s i) (rest s i)
+InPlace s i = InRange (header s).line.n (rounds (header s).line.t) (bits (header s).w) (round s i) (from s i) (to s i) (bit s i) (rest s i)
 
 -- ---- a place of bit b's table
 
-module _ (s : List ℕ) (b r i j : ℕ) (hr : 1 ≤ r) (hR : r ≤ rounds (header s).t) (hi : i < (header s).n) (hj : j < (header s).n) where
+module _ (s : List ℕ) (b r i j : ℕ) (hr : 1 ≤ r) (hR : r ≤ rounds (header s).line.t) (hi : i < (header s).line.n) (hj : j < (header s).line.n) where
   -- where it is in all bits' tables
   abbrev pub place_at : ℕ
-  place_at = b * table_wanted s + place (header s).n r i j
+  place_at = b * table_wanted s + place (header s).line.n r i j
 
   pub bit_inside : b < bits (header s).w → place_at < tables_wanted s
-  bit_inside h = digits_lt h (place_below (header s).n r i j hr hi hj (rounds (header s).t) hR)
+  bit_inside h = digits_lt h (place_below (header s).line.n r i j hr hi hj (rounds (header s).line.t) hR)
 
   -- it tells its bit and round, which are one round of all, its sender and its receiver
-  rounds_told : place_at / (header s).n / (header s).n ≡ b * rounds (header s).t + (r - 1)
+  rounds_told : place_at / (header s).line.n / (header s).line.n ≡ b * rounds (header s).line.t + (r - 1)
   rounds_told =
-      let q = b * rounds (header s).t in
-      let p : place_at / (header s).n / (header s).n + 1 ≡ q + r =
-      rw (bit_place (header s).n (header s).t b r i j hr) (place_round (header s).n (q + r) i j (omega arith) hi hj) in
+      let q = b * rounds (header s).line.t in
+      let p : place_at / (header s).line.n / (header s).line.n + 1 ≡ q + r =
+      rw (bit_place (header s).line.n (header s).line.t b r i j hr) (place_round (header s).line.n (q + r) i j (omega arith) hi hj) in
       omega arith
 
-  pub bit_told_at : place_at / (header s).n / (header s).n / rounds (header s).t ≡ b
+  pub bit_told_at : place_at / (header s).line.n / (header s).line.n / rounds (header s).line.t ≡ b
   bit_told_at = rw rounds_told (digits_div b (omega arith))
 
-  pub round_told_at : place_at / (header s).n / (header s).n % rounds (header s).t + 1 ≡ r
+  pub round_told_at : place_at / (header s).line.n / (header s).line.n % rounds (header s).line.t + 1 ≡ r
   round_told_at =
-      let l : r - 1 < rounds (header s).t = omega arith in rw (rounds_told, digits_mod b l) (omega arith)
+      let l : r - 1 < rounds (header s).line.t = omega arith in rw (rounds_told, digits_mod b l) (omega arith)
 
-  pub from_told_at : place_at / (header s).n % (header s).n ≡ i
+  pub from_told_at : place_at / (header s).line.n % (header s).line.n ≡ i
   from_told_at =
-      rw (bit_place (header s).n (header s).t b r i j hr)
-      (place_from (header s).n (b * rounds (header s).t + r) i j (omega arith) hi hj)
+      rw (bit_place (header s).line.n (header s).line.t b r i j hr)
+      (place_from (header s).line.n (b * rounds (header s).line.t + r) i j (omega arith) hi hj)
 
-  pub to_told_at : place_at % (header s).n ≡ j
+  pub to_told_at : place_at % (header s).line.n ≡ j
   to_told_at =
-      rw (bit_place (header s).n (header s).t b r i j hr)
-      (place_to (header s).n (b * rounds (header s).t + r) i j (omega arith) hi hj)
+      rw (bit_place (header s).line.n (header s).line.t b r i j hr)
+      (place_to (header s).line.n (b * rounds (header s).line.t + r) i j (omega arith) hi hj)
 
 module _ (s : List ℕ) where
   -- ---- one record
@@ -64,10 +64,10 @@ module _ (s : List ℕ) where
   in_place i e = in_range _ _ _ _ _ _ _ _ e
 
   module _ (i : ℕ) (p : InPlace s i) where
-    from_below : from s i - 1 < (header s).n
+    from_below : from s i - 1 < (header s).line.n
     from_below = omega arith
 
-    to_below : to s i - 1 < (header s).n
+    to_below : to s i - 1 < (header s).line.n
     to_below = omega arith
 
     -- its place is in the tables
@@ -79,22 +79,22 @@ module _ (s : List ℕ) where
     -- and so in the largest
     pub place_in_largest : SoundHeader (header s) → place_of s i < largest_tables
     place_in_largest sound =
-        lt_of_lt_of_le place_inside (tables_bound (header s).n (header s).t (header s).upper (header s).w sound.most sound.fits sound.narrow)
+        lt_of_lt_of_le place_inside (tables_bound (header s).line.n (header s).line.t (header s).line.upper (header s).w sound.most sound.fits sound.narrow)
 
     -- and tells its bit, round, from and to
-    pub bit_told : place_of s i / (header s).n / (header s).n / rounds (header s).t ≡ bit s i
+    pub bit_told : place_of s i / (header s).line.n / (header s).line.n / rounds (header s).line.t ≡ bit s i
     unfolding place_of
     bit_told = bit_told_at s (bit s i) (round s i) (from s i - 1) (to s i - 1) p.round_low p.round_high from_below to_below
 
-    pub round_told : place_of s i / (header s).n / (header s).n % rounds (header s).t + 1 ≡ round s i
+    pub round_told : place_of s i / (header s).line.n / (header s).line.n % rounds (header s).line.t + 1 ≡ round s i
     unfolding place_of
     round_told = round_told_at s (bit s i) (round s i) (from s i - 1) (to s i - 1) p.round_low p.round_high from_below to_below
 
-    pub from_told : place_of s i / (header s).n % (header s).n ≡ from s i - 1
+    pub from_told : place_of s i / (header s).line.n % (header s).line.n ≡ from s i - 1
     unfolding place_of
     from_told = from_told_at s (bit s i) (round s i) (from s i - 1) (to s i - 1) p.round_low p.round_high from_below to_below
 
-    pub to_told : place_of s i % (header s).n ≡ to s i - 1
+    pub to_told : place_of s i % (header s).line.n ≡ to s i - 1
     unfolding place_of
     to_told = to_told_at s (bit s i) (round s i) (from s i - 1) (to s i - 1) p.round_low p.round_high from_below to_below
 

@@ -92,7 +92,7 @@ module _ (s : List ℕ) where
     bit_fits =
         let sound = bit_sound in
         let few = bits_most (header s).w sound.narrow in
-        let short : l ≤ 36864 = rw bit_length (table_bound (header s).n (header s).t (header s).upper sound.most sound.fits) in
+        let short : l ≤ 36864 = rw bit_length (table_bound (header s).line.n (header s).line.t (header s).line.upper sound.most sound.fits) in
         product_fits {p = 8} {q = 36864} (omega (arith, bit_below)) short tt
 
   -- ---- the promise

@@ -147,11 +147,11 @@ module _ (s : List ℕ) where
 
   -- and so at every sender that is not marked, since a chained record's is
   pub unmarked_silent : (l : ℕ) (f : Fate s) → sheet_verdict s l f ≡ Accepted
-      → (b r i j : ℕ) → b < bits (header s).w → 1 ≤ r → r ≤ rounds (header s).t → i < (header s).n → j < (header s).n
-      → marked (header s).marks i ≡ false → get_or (table_of s f) (b * table_wanted s + place (header s).n r i j) 0 ≡ 255
+      → (b r i j : ℕ) → b < bits (header s).w → 1 ≤ r → r ≤ rounds (header s).line.t → i < (header s).line.n → j < (header s).line.n
+      → marked (header s).marks i ≡ false → get_or (table_of s f) (b * table_wanted s + place (header s).line.n r i j) 0 ≡ 255
   unmarked_silent l f v b r i j hb hr hR hi hj u =
       let (m, (e, (w, t))) = accepted_ends l f v in
-      else_silence l f v (b * table_wanted s + place (header s).n r i j) (bit_inside s b r i j hr hR hi hj hb)
+      else_silence l f v (b * table_wanted s + place (header s).line.n r i j) (bit_inside s b r i j hr hR hi hj hb)
       (λ a q same.
       let x = judged m a w (before_end s m a e q) in
       let y : from s (reached s a) - 1 ≡ i = cc (from_told s (reached s a) (judged_place a x), from_told_at s b r i j hr hR hi hj) in

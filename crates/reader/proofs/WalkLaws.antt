@@ -130,7 +130,7 @@ module _ (s : List ℕ) where
   -- ---- one record
 
   -- a record's place by its numbers
-  pub place_same : (i : ℕ) → Record s i → place_by (header s).n (rounds (header s).t) (record_at s i) ≡ place_of s i
+  pub place_same : (i : ℕ) → Record s i → place_by (header s).line.n (rounds (header s).line.t) (record_at s i) ≡ place_of s i
   unfolding place_by place_of
   place_same i r = rw (round_is s i r, from_is s i r, to_is s i r, bit_is s i r)
 

@@ -25,14 +25,14 @@ use Rattle.reader.specs.declared.fate.Walked.TheVariants as walked
 
 -- a header that causes 15 and 2 to 6 let through
 abbrev pub SoundHeader : Header → Type 0
-SoundHeader h = SoundNumber h.n h.t h.upper h.sender h.value h.w h.marks
+SoundHeader h = SoundNumber h.line.n h.line.t h.line.upper h.sender h.value h.w h.marks
 
 -- a sheet that causes 1, 15 and 2 to 6 let through, with its n, R, number of bits and marks
 pub record Lined (s : List ℕ) (n last bits marks : ℕ) : Type 0 where
   pub most : records s ≤ most_records
   pub sound : SoundHeader (header s)
-  pub n_is : n ≡ (header s).n
-  pub last_is : last ≡ rounds (header s).t
+  pub n_is : n ≡ (header s).line.n
+  pub last_is : last ≡ rounds (header s).line.t
   pub bits_are : bits ≡ width.bits (header s).w
   pub marks_are : marks ≡ (header s).marks
 

@@ -17,7 +17,7 @@ use Rattle.judgement.specs.Judgement.{sheet_verdict, bit_verdict}
 
 -- the place in the tables of the record with index i: in its bit's (request 5: "The buffers hold the bits' tables one after another, bit 0 first")
 unfoldable pub place_of : List ℕ → ℕ → ℕ
-place_of s i = bit s i * table_wanted s + place (header s).n (round s i) (from_0 (from s i)) (from_0 (to s i))
+place_of s i = bit s i * table_wanted s + place (header s).line.n (round s i) (from_0 (from s i)) (from_0 (to s i))
 
 -- "The reader fills a run table: 255 everywhere, then each chained ballot in its place": the tables of all bits, after the first m records of the chain
 unfoldable pub filled : List ℕ → ℕ → List ℕ
@@ -42,7 +42,7 @@ reading_number (reading.Refused c) = number c
 
 -- n, t, T, sender, value, w, marks
 abbrev pub numbers_of : Header → List ℕ
-numbers_of h = h.n ∷ h.t ∷ h.upper ∷ h.sender ∷ h.value ∷ h.w ∷ h.marks ∷ []
+numbers_of h = h.line.n ∷ h.line.t ∷ h.line.upper ∷ h.sender ∷ h.value ∷ h.w ∷ h.marks ∷ []
 
 abbrev pub reading_values : Reading → List ℕ
 reading_values (reading.Accepted h) = numbers_of h

@@ -43,8 +43,8 @@ ElseSilence =
 abbrev pub UnmarkedSilent : Type 0
 UnmarkedSilent =
     (s : List ℕ) (l : ℕ) (f : Fate s) → sheet_verdict s l f ≡ Accepted
-    → (b r i j : ℕ) → b < bits (header s).w → 1 ≤ r → r ≤ rounds (header s).t → i < (header s).n → j < (header s).n
-    → marked (header s).marks i ≡ false → get_or (table_of s f) (b * table_wanted s + place (header s).n r i j) 0 ≡ 255
+    → (b r i j : ℕ) → b < bits (header s).w → 1 ≤ r → r ≤ rounds (header s).line.t → i < (header s).line.n → j < (header s).line.n
+    → marked (header s).marks i ≡ false → get_or (table_of s f) (b * table_wanted s + place (header s).line.n r i j) 0 ≡ 255
 
 -- ---- one bit alone (request 5)
 

@@ -95,12 +95,15 @@ pub(crate) fn walk(
     requires { Walkable sheet.now header places.old ballots.old }
     ensures { Told sheet.now places.new ballots.new result }
 {
-    let line = Line {
-        n: header.n,
-        t: header.t,
-        upper: header.upper,
-    };
-    let last = line.rounds() as u8;
+    let last = header.line.rounds() as u8;
     let bits = width::bits(header.w);
-    walk_chain(sheet, header.n, last, bits, header.marks, places, ballots)
+    walk_chain(
+        sheet,
+        header.line.n,
+        last,
+        bits,
+        header.marks,
+        places,
+        ballots,
+    )
 }

@@ -69,7 +69,7 @@ module _ (s table₀ table₁ : List ℕ) {answer : Reading} (r : Reads s table�
   -- the verdict is the sheet's own
   own : sheet_verdict s (length table₀) r.fate ≡ lines.verdict s r.fate
   own = verdict_same s r.fate (length table₀)
-      (λ sound. lent ∙ min-eq_left (tables_bound (header s).n (header s).t (header s).upper (header s).w sound.most sound.fits sound.narrow))
+      (λ sound. lent ∙ min-eq_left (tables_bound (header s).line.n (header s).line.t (header s).line.upper (header s).w sound.most sound.fits sound.narrow))
 
   module _ (h : Header) (e : answer ≡ reading.Accepted h) where
     accepted : sheet_verdict s (length table₀) r.fate ≡ verdict.Accepted

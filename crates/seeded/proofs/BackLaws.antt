@@ -39,11 +39,11 @@ module _ (h : List ℕ) (seed : ℕ) where
   -- what is read back of a byte is the byte: an unmarked sender's is silence in both
   kept_same : (p : ℕ) → p < length table → kept (header h) table p ≡ get_or table p 0
   unfolding kept
-  kept_same p l = go (marked (header h).marks (from_at (header h).n p)) refl
+  kept_same p l = go (marked (header h).marks (from_at (header h).line.n p)) refl
     where
-      go : (b : Bool) → marked (header h).marks (from_at (header h).n p) ≡ b → (if b then get_or (generated (header h) seed) p 0 else 255) ≡ get_or (generated (header h) seed) p 0
+      go : (b : Bool) → marked (header h).marks (from_at (header h).line.n p) ≡ b → (if b then get_or (generated (header h) seed) p 0 else 255) ≡ get_or (generated (header h) seed) p 0
       go true e = refl
-      go false e = sym (generated_at (header h) seed p (rw (generated_length (header h) seed) at l) ∙ byte_silent (header h).n (header h).marks seed p e)
+      go false e = sym (generated_at (header h) seed p (rw (generated_length (header h) seed) at l) ∙ byte_silent (header h).line.n (header h).marks seed p e)
 
   module _ (v : generate_verdict h seed (tables_wanted h) ≡ Accepted) (few : how_many (header h) table ≤ most_records) where
     twelve : header_length h ≡ Accepted

@@ -30,7 +30,7 @@ table_rows n t some = rows_whole n (table_length n t) some (mul-mod_left (rounds
 
 module _ (h : Header) (seed : ℕ) (table bytes results : List ℕ) where
   -- before the first
-  pub bits_begin : SoundHeader h → length table ≡ table_length h.n h.t → length bytes ≡ table_length h.n h.t
+  pub bits_begin : SoundHeader h → length table ≡ table_length h.line.n h.t → length bytes ≡ table_length h.line.n h.t
       → length results ≡ outcomes_length h.n → BitsRun h seed 0 seed table bytes results
   unfolding seed_run
   bits_begin sound a b c = record {
@@ -43,12 +43,12 @@ module _ (h : Header) (seed : ℕ) (table bytes results : List ℕ) where
 
   -- a bit more
   module _ (b state : ℕ) (P : BitsRun h seed b state table bytes results) (more : b < bits h.w)
-      (table₁ bytes₁ results₁ : List ℕ) (left : ℕ) (F : Fills h.n h.marks state table table₁ left) where
-    whole : whole_rows h.n (length table) ≡ true
-    whole = rw P.table_whole (table_rows h.n h.t P.sound.some)
+      (table₁ bytes₁ results₁ : List ℕ) (left : ℕ) (F : Fills h.line.n h.marks state table table₁ left) where
+    whole : whole_rows h.line.n (length table) ≡ true
+    whole = rw P.table_whole (table_rows h.line.n h.line.t P.sound.some)
 
     -- its table
-    its_table : table₁ ≡ part_of (table_length h.n h.t) (generated h seed) b
+    its_table : table₁ ≡ part_of (table_length h.line.n h.line.t) (generated h seed) b
     its_table = F.table_is ∙ rw (whole, P.table_whole, P.state_is) (sym (bits_run_on h seed b more))
 
     -- the state that it leaves
@@ -56,7 +56,7 @@ module _ (h : Header) (seed : ℕ) (table bytes results : List ℕ) where
     its_state = F.state_is ∙ rw (whole, P.table_whole, P.state_is) (state_next_bit h seed b P.sound.some)
 
     -- its run
-    module _ {answer : Verdict} (R : RehearsedBit b (run_of h.n h.t h.upper h.sender (bit_of h.value b) h.marks table₁) bytes bytes₁ results results₁ answer) where
+    module _ {answer : Verdict} (R : RehearsedBit b (run_of h.line.n h.line.t h.line.upper h.sender (bit_of h.value b) h.marks table₁) bytes bytes₁ results results₁ answer) where
       its_run : RehearsedBit b (bit_run (run h (generated h seed)) b) bytes bytes₁ results results₁ answer
       unfolding bit_run
       its_run = rw its_table at R
@@ -72,7 +72,7 @@ module _ (h : Header) (seed : ℕ) (table bytes results : List ℕ) where
           record {
             sound = P.sound;
             state_is = its_state;
-            table_whole = ap length its_table ∙ part_size (table_length h.n h.t) (generated h seed) b (bits h.w) more (generated_length h seed);
+            table_whole = ap length its_table ∙ part_size (table_length h.line.n h.line.t) (generated h seed) b (bits h.w) more (generated_length h seed);
             table_is = λ _. rw back its_table;
             in_turn = its_turn;
           }

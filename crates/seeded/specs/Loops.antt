@@ -13,8 +13,8 @@ use Rattle.seeded.specs.Promise.{seed_run, last_table, last_log}
 pub record BitsRun (h : Header) (seed m state : ℕ) (table bytes results : List ℕ) : Type 0 where
   pub sound : SoundHeader h
   pub state_is : state ≡ bit_state h seed m
-  pub table_whole : length table ≡ table_length h.n h.t
-  pub table_is : 1 ≤ m → table ≡ part_of (table_length h.n h.t) (generated h seed) (m - 1)
+  pub table_whole : length table ≡ table_length h.line.n h.line.t
+  pub table_is : 1 ≤ m → table ≡ part_of (table_length h.line.n h.line.t) (generated h seed) (m - 1)
   pub in_turn : InTurn (seed_run h seed) m bytes results
 
 -- all bits

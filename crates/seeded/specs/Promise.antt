@@ -22,7 +22,7 @@ seed_run h seed = run h (generated h seed)
 
 -- the last bit's table, and its log
 unfoldable pub last_table : Header → ℕ → List ℕ
-last_table h seed = part_of (table_length h.n h.t) (generated h seed) (bits h.w - 1)
+last_table h seed = part_of (table_length h.line.n h.line.t) (generated h seed) (bits h.w - 1)
 
 unfoldable pub last_log : Header → ℕ → List ℕ
 last_log h seed = log (bit_run (seed_run h seed) (bits h.w - 1))
@@ -31,11 +31,11 @@ last_log h seed = log (bit_run (seed_run h seed) (bits h.w - 1))
 -- its length
 unfoldable pub seed_verdict : Header → (seed table_size log_size outcomes_size : ℕ) → Verdict
 seed_verdict h seed table_size log_size outcomes_size =
-    number_verdict h.n h.t h.upper h.sender h.value h.w h.marks
+    number_verdict h.line.n h.line.t h.line.upper h.sender h.value h.w h.marks
     or_else seed_some seed
-    or_else exact_length (table_length h.n h.t) table_size
-    or_else exact_length (table_length h.n h.t) log_size
-    or_else exact_length (outcomes_length h.n) outcomes_size
+    or_else exact_length (table_length h.line.n h.line.t) table_size
+    or_else exact_length (table_length h.line.n h.line.t) log_size
+    or_else exact_length (outcomes_length h.line.n) outcomes_size
 
 -- The promise. `table₀`, `log₀` and `outcomes₀` are the buffers at entry, `table₁`, `log₁` and `outcomes₁` at exit.
 pub record RehearsedSeed (h : Header) (seed : ℕ) (table₀ table₁ log₀ log₁ outcomes₀ outcomes₁ : List ℕ) (answer : Verdict) : Type 0 where
@@ -48,4 +48,4 @@ pub record RehearsedSeed (h : Header) (seed : ℕ) (table₀ table₁ log₀ log
   pub outcomes_are : outcomes₁ ≡ written answer (number_outcomes (seed_run h seed)) outcomes₀
   -- demand 3, of the outcome bytes at exit
   pub demand_3 : answer ≡ Accepted
-      → TwoThreshold (2 ^ bits h.w) h.n h.t h.upper (marked h.marks) (from_0 h.sender) h.value (value_at outcomes₁) (flag_at outcomes₁)
+      → TwoThreshold (2 ^ bits h.w) h.line.n h.line.t h.line.upper (marked h.marks) (from_0 h.sender) h.value (value_at outcomes₁) (flag_at outcomes₁)

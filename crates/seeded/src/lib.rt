@@ -20,16 +20,17 @@ fn judge(
 ) -> Verdict
     ensures { result ≡ seed_verdict header seed table_len log_len outcomes_len }
 {
-    let line = Line {
-        n: header.n,
-        t: header.t,
-        upper: header.upper,
-    };
-    let a = header::number_verdict(line, header.sender, header.value, header.w, header.marks);
+    let a = header::number_verdict(
+        header.line,
+        header.sender,
+        header.value,
+        header.w,
+        header.marks,
+    );
     let s = Verdict::refused_if(seed == 0, Cause::Seed);
-    let b = header::exact_length(line.table_len(), table_len);
-    let c = header::exact_length(line.table_len(), log_len);
-    let d = header::exact_length(line.outcomes_len(), outcomes_len);
+    let b = header::exact_length(header.line.table_len(), table_len);
+    let c = header::exact_length(header.line.table_len(), log_len);
+    let d = header::exact_length(header.line.outcomes_len(), outcomes_len);
     a.or_else(s.or_else(b.or_else(c.or_else(d))))
 }
 
@@ -46,14 +47,9 @@ fn next_bit(
     requires { BitsRun header seed b state table.old log.old outcomes.old × (b < bits header.w) }
     ensures { BitsRun header seed (b + 1) result table.new log.new outcomes.new }
 {
-    let line = Line {
-        n: header.n,
-        t: header.t,
-        upper: header.upper,
-    };
-    let left = generator::fill(header.n, header.marks, state, table);
+    let left = generator::fill(header.line.n, header.marks, state, table);
     recipe::bit(
-        line,
+        header.line,
         header.sender,
         header.value,
         b,

@@ -32,14 +32,14 @@ ready_header s h table bytes results B c =
     record { sound = rw B.header_is B.sound; table_whole = rw B.header_is B.table_whole; log_whole = rw B.header_is B.log_whole; outcomes_whole = c }
 
 -- its line has at most 32 stations
-pub few : (s : List ℕ) (h : Header) (table bytes : List ℕ) → Begun s h table bytes → h.n ≤ 32
+pub few : (s : List ℕ) (h : Header) (table bytes : List ℕ) → Begun s h table bytes → h.line.n ≤ 32
 few s h table bytes B = rw B.header_is B.sound.most
 
 module _ (s table₀ table₁ : List ℕ) {answer : Reading} (r : ReadsBit s 0 table₀ table₁ answer) (lent : length table₀ ≡ min (table_wanted s) largest_table) where
   -- the verdict is the sheet's own
   own : bit_verdict s 0 (length table₀) r.fate ≡ lines.verdict s r.fate
   own = bit_verdict_same s r.fate (length table₀)
-      (λ sound. lent ∙ min-eq_left (table_bound (header s).n (header s).t (header s).upper sound.most sound.fits))
+      (λ sound. lent ∙ min-eq_left (table_bound (header s).line.n (header s).line.t (header s).line.upper sound.most sound.fits))
 
   module _ (h : Header) (e : answer ≡ reading.Accepted h) where
     both : (bit_verdict s 0 (length table₀) r.fate ≡ verdict.Accepted) × (h ≡ header s)

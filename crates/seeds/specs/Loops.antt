@@ -18,9 +18,9 @@ pub record Seed (seed : ℕ) : Type 0 where
 -- a header that nothing refuses, with a table, a log and outcomes of its line
 pub record Ready (h : Header) (table bytes results : List ℕ) : Type 0 where
   pub sound : SoundHeader h
-  pub table_whole : length table ≡ table_length h.n h.t
-  pub log_whole : length bytes ≡ table_length h.n h.t
-  pub outcomes_whole : length results ≡ outcomes_length h.n
+  pub table_whole : length table ≡ table_length h.line.n h.line.t
+  pub log_whole : length bytes ≡ table_length h.line.n h.line.t
+  pub outcomes_whole : length results ≡ outcomes_length h.line.n
 
 -- an accepted sheet's header, with a table and a log of its line
 pub record Begun (s : List ℕ) (h : Header) (table bytes : List ℕ) : Type 0 where

@@ -88,7 +88,7 @@ fn list_header(
     ensures { Puts out.old out.new 0 (listings header last_seed) result }
 {
     let mut outcomes = [0u8; Line::LARGEST_OUTCOMES];
-    let m = Line::OUTCOME * (header.n as usize);
+    let m = Line::OUTCOME * (header.line.n as usize);
     list_seeds(header, table, log, &mut outcomes[..m], out, terminal)
 }
 

@@ -115,35 +115,35 @@ round_within n r last h = rw (← next_round n r) (mul-le-mul_right n (mul-le-mu
 
 module _ (h : Header) (table : List ℕ) where
   -- nobody marked
-  nobody : h.marks ≡ 0 → (p : ℕ) → to_write h.n h.marks table p ≡ false
+  nobody : h.marks ≡ 0 → (p : ℕ) → to_write h.line.n h.marks table p ≡ false
   unfolding to_write
-  nobody e p = rw (e, marked_above 0 (from_at h.n p) (pow_pos (from_at h.n p)))
+  nobody e p = rw (e, marked_above 0 (from_at h.line.n p) (pow_pos (from_at h.line.n p)))
 
   pub counted_nobody : h.marks ≡ 0 → 0 ≡ counted h table
   unfolding counted how_many
   counted_nobody e =
-      let l = tables_length h.n h.t h.w in
-      rw (count_same l (to_write h.n h.marks table) (λ p. false) (λ p q. nobody e p), count_none l)
-      (go (leb h.n 32 && eqb (length table) l))
+      let l = tables_length h.line.n h.line.t h.w in
+      rw (count_same l (to_write h.line.n h.marks table) (λ p. false) (λ p q. nobody e p), count_none l)
+      (go (leb h.line.n 32 && eqb (length table) l))
     where
       go : (b : Bool) → ◌≡◌ {A = ℕ} 0 (if b then 0 else 0)
       go true = refl
       go false = refl
 
-  pub counted_large : 32 < h.n → 0 ≡ counted h table
+  pub counted_large : 32 < h.line.n → 0 ≡ counted h table
   unfolding counted
-  counted_large l = rw (lt-leb h.n 32 l)
+  counted_large l = rw (lt-leb h.line.n 32 l)
 
-  module _ (few : h.n ≤ 32) where
-    pub counted_none : length table ≢ tables_length h.n h.t h.w → 0 ≡ counted h table
+  module _ (few : h.line.n ≤ 32) where
+    pub counted_none : length table ≢ tables_length h.line.n h.line.t h.w → 0 ≡ counted h table
     unfolding counted
-    counted_none e = rw (le-leb h.n 32 few, ne_eqb (length table) (tables_length h.n h.t h.w) e)
+    counted_none e = rw (le-leb h.line.n 32 few, ne_eqb (length table) (tables_length h.line.n h.line.t h.w) e)
 
-    pub counted_all : length table ≡ tables_length h.n h.t h.w → counted h table ≡ how_many h table
+    pub counted_all : length table ≡ tables_length h.line.n h.line.t h.w → counted h table ≡ how_many h table
     unfolding counted
-    counted_all e = rw (le-leb h.n 32 few, eq-eqb (length table) (tables_length h.n h.t h.w) e)
+    counted_all e = rw (le-leb h.line.n 32 few, eq-eqb (length table) (tables_length h.line.n h.line.t h.w) e)
 
-    pub counted_is : (r : ℕ) → length table ≡ tables_length h.n h.t h.w → r ≡ count (tables_length h.n h.t h.w) (to_write h.n h.marks table)
+    pub counted_is : (r : ℕ) → length table ≡ tables_length h.line.n h.line.t h.w → r ≡ count (tables_length h.line.n h.line.t h.w) (to_write h.line.n h.marks table)
         → r ≡ counted h table
     unfolding how_many
     counted_is r e q = q ∙ sym (counted_all e)

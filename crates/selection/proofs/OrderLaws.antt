@@ -39,18 +39,18 @@ module _ (n marks : ℕ) (table : List ℕ) (p : ℕ) where
 
 module _ (h : Header) (table : List ℕ) where
   module _ (m : ℕ) (some : 1 ≤ m) (most : m ≤ how_many h table) where
-    pub written_is : Ranked (to_write h.n h.marks table) (tables_length h.n h.t h.w) (m - 1) (place_written h table m)
+    pub written_is : Ranked (to_write h.line.n h.marks table) (tables_length h.line.n h.line.t h.w) (m - 1) (place_written h table m)
     unfolding place_written how_many
-    written_is = ranked_is (to_write h.n h.marks table) (tables_length h.n h.t h.w) (m - 1) (omega arith)
+    written_is = ranked_is (to_write h.line.n h.marks table) (tables_length h.line.n h.line.t h.w) (m - 1) (omega arith)
 
-  pub written_back : (p : ℕ) → p < tables_length h.n h.t h.w → to_write h.n h.marks table p ≡ true
-      → (count p (to_write h.n h.marks table) < how_many h table)
-      × (place_written h table (count p (to_write h.n h.marks table) + 1) ≡ p)
+  pub written_back : (p : ℕ) → p < tables_length h.line.n h.line.t h.w → to_write h.line.n h.marks table p ≡ true
+      → (count p (to_write h.line.n h.marks table) < how_many h table)
+      × (place_written h table (count p (to_write h.line.n h.marks table) + 1) ≡ p)
   unfolding place_written how_many
   written_back p l e =
-      let q = to_write h.n h.marks table in
+      let q = to_write h.line.n h.marks table in
       let z : count p q + 1 - 1 ≡ count p q = omega arith in
-      (rank_less q p (tables_length h.n h.t h.w) l e, rw z (ranked_back q (tables_length h.n h.t h.w) p l e))
+      (rank_less q p (tables_length h.line.n h.line.t h.w) l e, rw z (ranked_back q (tables_length h.line.n h.line.t h.w) p l e))
 
   pub in_order : InOrder h table
   in_order = record {
@@ -60,5 +60,5 @@ module _ (h : Header) (table : List ℕ) where
     increasing = λ m l a b c.
         let u = written_is m a (omega arith) in
         let v = written_is l (omega arith) c in
-        less_rank (to_write h.n h.marks table) (place_written h table m) (place_written h table l) v.passes (omega (arith, u.rank, v.rank));
+        less_rank (to_write h.line.n h.marks table) (place_written h table m) (place_written h table l) v.passes (omega (arith, u.rank, v.rank));
   }

@@ -8,4 +8,4 @@ use Rattle.selection.specs.Places.{how_many}
 -- how many bytes are to be written, in a line of at most 32 stations and of tables of its length; otherwise none
 unfoldable pub counted : Header → List ℕ → ℕ
 counted h table =
-    if leb h.n most_stations && eqb (length table) (tables_length h.n h.t h.w) then how_many h table else 0
+    if leb h.line.n most_stations && eqb (length table) (tables_length h.line.n h.line.t h.w) then how_many h table else 0

@@ -31,7 +31,7 @@ to_write n marks table p = marked marks (from_at n p) && not (eqb (get_or table 
 
 -- how many bytes of the tables are to be written
 unfoldable pub how_many : Header → List ℕ → ℕ
-how_many h table = count (tables_length h.n h.t h.w) (to_write h.n h.marks table)
+how_many h table = count (tables_length h.line.n h.line.t h.w) (to_write h.line.n h.marks table)
 
 -- the place below l that passes the test and has m places that pass it before it
 unfoldable pub ranked : ℕ → (ℕ → Bool) → ℕ → ℕ
@@ -40,4 +40,4 @@ ranked (suc l) q m = if q l && eqb (count l q) m then l else ranked l q m
 
 -- the place of record m, counted from 1: m - 1 places are written before it
 unfoldable pub place_written : Header → List ℕ → ℕ → ℕ
-place_written h table m = ranked (tables_length h.n h.t h.w) (to_write h.n h.marks table) (m - 1)
+place_written h table m = ranked (tables_length h.line.n h.line.t h.w) (to_write h.line.n h.marks table) (m - 1)

@@ -23,12 +23,12 @@ PlaceTold = (n t w p : ℕ) → p < tables_length n t w → Told n t w p
 -- "one record for each byte of a marked sender that is not 255, by round, then from, then to", and bit by bit
 pub record InOrder (h : Header) (table : List ℕ) : Type 0 where
   -- every record's place is one to be written
-  pub is_one : (m : ℕ) → 1 ≤ m → m ≤ how_many h table → to_write h.n h.marks table (place_written h table m) ≡ true
-  pub inside : (m : ℕ) → 1 ≤ m → m ≤ how_many h table → place_written h table m < tables_length h.n h.t h.w
+  pub is_one : (m : ℕ) → 1 ≤ m → m ≤ how_many h table → to_write h.line.n h.marks table (place_written h table m) ≡ true
+  pub inside : (m : ℕ) → 1 ≤ m → m ≤ how_many h table → place_written h table m < tables_length h.line.n h.line.t h.w
   -- every place to be written is one record's: that of the record after all the places before it
-  pub all : (p : ℕ) → p < tables_length h.n h.t h.w → to_write h.n h.marks table p ≡ true
-      → (count p (to_write h.n h.marks table) < how_many h table)
-      × (place_written h table (count p (to_write h.n h.marks table) + 1) ≡ p)
+  pub all : (p : ℕ) → p < tables_length h.line.n h.line.t h.w → to_write h.line.n h.marks table p ≡ true
+      → (count p (to_write h.line.n h.marks table) < how_many h table)
+      × (place_written h table (count p (to_write h.line.n h.marks table) + 1) ≡ p)
   -- and they increase
   pub increasing : (m l : ℕ) → 1 ≤ m → m < l → l ≤ how_many h table → place_written h table m < place_written h table l
 

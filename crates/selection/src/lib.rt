@@ -97,17 +97,12 @@ pub fn count(header: Header, table: &[u8]) -> usize
     if header.marks == 0 {
         return 0;
     }
-    if 32 < header.n {
+    if 32 < header.line.n {
         return 0;
     }
-    let line = Line {
-        n: header.n,
-        t: header.t,
-        upper: header.upper,
-    };
-    if table.len() != line.tables_len(header.w) {
+    if table.len() != header.line.tables_len(header.w) {
         return 0;
     }
-    let last = (width::bits(header.w) as usize) * line.rounds();
-    in_table(table, header.marks, header.n, last)
+    let last = (width::bits(header.w) as usize) * header.line.rounds();
+    in_table(table, header.marks, header.line.n, last)
 }

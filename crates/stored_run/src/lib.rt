@@ -16,12 +16,9 @@ fn sevens() -> [u8; 36864] {
 
 // Rehearses what an accepted sheet says.
 fn decide(out: &impl Print, h: Header, table: &[u8], log: &mut [u8], outcomes: &mut [u8]) {
-    let line = Line {
-        n: h.n,
-        t: h.t,
-        upper: h.upper,
-    };
-    let verdict = recipe::rehearse(line, h.sender, h.value, h.w, h.marks, table, log, outcomes);
+    let verdict = recipe::rehearse(
+        h.line, h.sender, h.value, h.w, h.marks, table, log, outcomes,
+    );
     print::rehearsal(out, verdict.code(), log, outcomes);
 }
 
@@ -31,7 +28,7 @@ fn accepted(out: &impl Print, h: Header, table: &[u8], lent: u16) {
     let mut log = sevens();
     let a = slices::shorter(lent as usize, log.len());
     let mut outcomes = sevens();
-    let b = Line::OUTCOME * (h.n as usize);
+    let b = Line::OUTCOME * (h.line.n as usize);
     decide(out, h, table, &mut log[..a], &mut outcomes[..b]);
 }
 

@@ -26,9 +26,9 @@ fn table(out: &impl Print, table: &[u8]) {
 
 // An accepted sheet: n, t, T, sender, value, w and marks.
 pub(crate) fn header(out: &impl Print, h: Header, lent: &[u8]) {
-    number(out, h.n as u64);
-    number(out, h.t as u64);
-    number(out, h.upper as u64);
+    number(out, h.line.n as u64);
+    number(out, h.line.t as u64);
+    number(out, h.line.upper as u64);
     number(out, h.sender as u64);
     number(out, h.value as u64);
     number(out, h.w as u64);

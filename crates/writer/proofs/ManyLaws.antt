@@ -63,7 +63,7 @@ to_8_other h l =
     let g = header h in
     or_other (verdict_to_6 h) (exact_length (tables_wanted h) l)
     (or_other (sheet_form h) _ (if_other (ill_formed h) SheetForm (λ e. omega arith))
-    (number_other g.n g.t g.upper g.sender g.value g.w g.marks))
+    (number_other g.line.n g.line.t g.line.upper g.sender g.value g.w g.marks))
     (length_other (tables_wanted h) l)
 
 taken_other : (h : List ℕ) (l : ℕ) → Other (header_and_table h l)

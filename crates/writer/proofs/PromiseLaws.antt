@@ -73,10 +73,10 @@ module _ (h : List ℕ) (l : ℕ) (e : header_and_table h l ≡ verdict.Accepted
   pub taken_sound : SoundHeader (header h)
   taken_sound = opening_sound h l taken_both.1
 
-  pub taken_length : l ≡ tables_length (header h).n (header h).t (header h).w
+  pub taken_length : l ≡ tables_length (header h).line.n (header h).line.t (header h).w
   taken_length = opening_length h l taken_both.1
 
-  pub taken_short : rounds (header h).t ≤ 36
+  pub taken_short : rounds (header h).line.t ≤ 36
   taken_short = rounds_bound _ _ _ taken_sound.most taken_sound.fits
 
 module _ (h table : List ℕ) where
@@ -205,7 +205,7 @@ module _ (h table : List ℕ) where
         all = told_records;
         most = omega (arith, told_records, told_few);
         room = omega (arith, e, told_bytes l n);
-        before = sym (count_zero (to_write (header h).n (header h).marks table));
+        before = sym (count_zero (to_write (header h).line.n (header h).marks table));
       };
     }
 

@@ -59,81 +59,81 @@ module _ (h : Header) (table : List ℕ) (k : ℕ) where
 
   -- ---- a sender's byte: its place, bit, round, sender and receiver
 
-  module _ (turn : Turn) (from at : ℕ) (here : OfSender h turn from at) (j : ℕ) (l : j < h.n) where
-    place_here : at + j ≡ turn.bit * table_length h.n h.t + place h.n turn.round (from - 1) j
+  module _ (turn : Turn) (from at : ℕ) (here : OfSender h turn from at) (j : ℕ) (l : j < h.line.n) where
+    place_here : at + j ≡ turn.bit * table_length h.line.n h.line.t + place h.line.n turn.round (from - 1) j
     unfolding place
     place_here = omega (arith, here.at_is)
 
-    from_here : from - 1 < h.n
+    from_here : from - 1 < h.line.n
     from_here = omega (arith, here.from_low, here.from_high)
 
-    bit_here : bit_at h.n h.t (at + j) ≡ turn.bit
-    bit_here = rw place_here (bit_told h.n h.t turn.bit turn.round (from - 1) j here.round_low here.round_high from_here l)
+    bit_here : bit_at h.line.n h.line.t (at + j) ≡ turn.bit
+    bit_here = rw place_here (bit_told h.line.n h.line.t turn.bit turn.round (from - 1) j here.round_low here.round_high from_here l)
 
-    round_here : round_at h.n h.t (at + j) ≡ turn.round
-    round_here = rw place_here (round_told h.n h.t turn.bit turn.round (from - 1) j here.round_low here.round_high from_here l)
+    round_here : round_at h.line.n h.line.t (at + j) ≡ turn.round
+    round_here = rw place_here (round_told h.line.n h.line.t turn.bit turn.round (from - 1) j here.round_low here.round_high from_here l)
 
-    sender_here : from_at h.n (at + j) ≡ from - 1
-    sender_here = rw place_here (from_told h.n h.t turn.bit turn.round (from - 1) j here.round_low here.round_high from_here l)
+    sender_here : from_at h.line.n (at + j) ≡ from - 1
+    sender_here = rw place_here (from_told h.line.n h.line.t turn.bit turn.round (from - 1) j here.round_low here.round_high from_here l)
 
-    receiver_here : to_at h.n (at + j) ≡ j
-    receiver_here = rw place_here (to_told h.n h.t turn.bit turn.round (from - 1) j here.round_low here.round_high from_here l)
+    receiver_here : to_at h.line.n (at + j) ≡ j
+    receiver_here = rw place_here (to_told h.line.n h.line.t turn.bit turn.round (from - 1) j here.round_low here.round_high from_here l)
 
-    pub place_inside : at + j < tables_length h.n h.t h.w
+    pub place_inside : at + j < tables_length h.line.n h.line.t h.w
     place_inside =
         rw place_here
-        (place_within h.n h.t turn.bit turn.round (from - 1) j here.round_low here.round_high from_here l h.w here.bit_below)
+        (place_within h.line.n h.line.t turn.bit turn.round (from - 1) j here.round_low here.round_high from_here l h.w here.bit_below)
 
   -- ---- the byte of a marked sender
 
-  module _ (turn : Turn) (from at : ℕ) (here : OfSender h turn from at) (bad : marked h.marks (from_0 from) ≡ true) (j : ℕ) (l : j < h.n) where
+  module _ (turn : Turn) (from at : ℕ) (here : OfSender h turn from at) (bad : marked h.marks (from_0 from) ≡ true) (j : ℕ) (l : j < h.line.n) where
     -- it is to be written exactly if it is not silence
-    written_is : to_write h.n h.marks table (at + j) ≡ not (eqb (get_or table (at + j) 0) silence)
+    written_is : to_write h.line.n h.marks table (at + j) ≡ not (eqb (get_or table (at + j) 0) silence)
     unfolding to_write
     written_is = rw (sender_here turn from at here j l, bad)
 
-    loud : get_or table (at + j) 0 ≢ 255 → to_write h.n h.marks table (at + j) ≡ true
+    loud : get_or table (at + j) 0 ≢ 255 → to_write h.line.n h.marks table (at + j) ≡ true
     loud e = written_is ∙ rw (ne_eqb (get_or table (at + j) 0) 255 e)
 
-    silent : get_or table (at + j) 0 ≡ 255 → to_write h.n h.marks table (at + j) ≡ false
+    silent : get_or table (at + j) 0 ≡ 255 → to_write h.line.n h.marks table (at + j) ≡ false
     silent e = written_is ∙ rw (eq-eqb (get_or table (at + j) 0) 255 e)
 
     -- one byte more is counted
-    pub byte_counted : count (at + (j + 1)) (to_write h.n h.marks table) ≡ count (at + j) (to_write h.n h.marks table) + spoken (get_or table (at + j) 0)
+    pub byte_counted : count (at + (j + 1)) (to_write h.line.n h.marks table) ≡ count (at + j) (to_write h.line.n h.marks table) + spoken (get_or table (at + j) 0)
     byte_counted =
-        let q = to_write h.n h.marks table in
+        let q = to_write h.line.n h.marks table in
         let b = get_or table (at + j) 0 in
         let z : at + (j + 1) ≡ at + j + 1 = omega arith in
         rw z (go (eqb b silence) refl)
       where
         go : (c : Bool) → eqb (get_or table (at + j) 0) silence ≡ c
-            → count (at + j + 1) (to_write h.n h.marks table) ≡ count (at + j) (to_write h.n h.marks table) + spoken (get_or table (at + j) 0)
+            → count (at + j + 1) (to_write h.line.n h.marks table) ≡ count (at + j) (to_write h.line.n h.marks table) + spoken (get_or table (at + j) 0)
         go true e =
             let f = eqb-true (get_or table (at + j) 0) 255 e in
-            rw (spoken_none (get_or table (at + j) 0) f) (count_miss (at + j) (to_write h.n h.marks table) (silent f) ∙ omega arith)
+            rw (spoken_none (get_or table (at + j) 0) f) (count_miss (at + j) (to_write h.line.n h.marks table) (silent f) ∙ omega arith)
         go false e =
             let f = eqb-false (get_or table (at + j) 0) 255 e in
-            rw (spoken_one (get_or table (at + j) 0) f) (count_hit (at + j) (to_write h.n h.marks table) (loud f))
+            rw (spoken_one (get_or table (at + j) 0) f) (count_hit (at + j) (to_write h.line.n h.marks table) (loud f))
 
     -- within all
-    pub byte_within : count (at + j) (to_write h.n h.marks table) + spoken (get_or table (at + j) 0) ≤ how_many h table
+    pub byte_within : count (at + j) (to_write h.line.n h.marks table) + spoken (get_or table (at + j) 0) ≤ how_many h table
     unfolding how_many
     byte_within =
-        let w = widen (at + (j + 1)) (tables_length h.n h.t h.w) (to_write h.n h.marks table) (omega (arith, place_inside turn from at here j l)) in
+        let w = widen (at + (j + 1)) (tables_length h.line.n h.line.t h.w) (to_write h.line.n h.marks table) (omega (arith, place_inside turn from at here j l)) in
         omega (arith, w, byte_counted)
 
     -- its record is the one after those before it
-    record_here : get_or table (at + j) 0 ≢ 255 → (m : ℕ) → m ≡ count (at + j) (to_write h.n h.marks table)
+    record_here : get_or table (at + j) 0 ≢ 255 → (m : ℕ) → m ≡ count (at + j) (to_write h.line.n h.marks table)
         → record_bytes h table k (m + 1)
         ≡ eight turn.round from (j + 1) (get_or table (at + j) 0) (next_index k (m + 1)) turn.bit
     unfolding record_bytes record_of place_written
     record_here e m c =
-        let q = to_write h.n h.marks table in
+        let q = to_write h.line.n h.marks table in
         let z : m + 1 - 1 ≡ count (at + j) q = omega (arith, c) in
         let f : from - 1 + 1 ≡ from = omega (arith, here.from_low) in
         rw (
           z,
-          ranked_back q (tables_length h.n h.t h.w) (at + j) (place_inside turn from at here j l) (loud e),
+          ranked_back q (tables_length h.line.n h.line.t h.w) (at + j) (place_inside turn from at here j l) (loud e),
           bit_here turn from at here j l,
           round_here turn from at here j l,
           sender_here turn from at here j l,
@@ -142,7 +142,7 @@ module _ (h : Header) (table : List ℕ) (k : ℕ) where
         )
 
     -- and so the records go on
-    pub byte_goes_on : (sheet : List ℕ) (m : ℕ) → m ≡ count (at + j) (to_write h.n h.marks table)
+    pub byte_goes_on : (sheet : List ℕ) (m : ℕ) → m ≡ count (at + j) (to_write h.line.n h.marks table)
         → Goes_on h table k sheet m (put_at sheet k m turn from (j + 1) (get_or table (at + j) 0)) (m + spoken (get_or table (at + j) 0))
     byte_goes_on sheet m c s e = go (eqb (get_or table (at + j) 0) silence) refl
       where
@@ -160,7 +160,7 @@ module _ (h : Header) (table : List ℕ) (k : ℕ) where
 
 -- what is ready stays so, further on
 pub ready_on : (h : Header) (table sheet₀ sheet : List ℕ) (k at₀ at m₀ m : ℕ) → Ready h table sheet₀ k at₀ m₀ → length sheet ≡ length sheet₀
-    → m ≡ count at (to_write h.n h.marks table) → Ready h table sheet k at m
+    → m ≡ count at (to_write h.line.n h.marks table) → Ready h table sheet k at m
 ready_on h table sheet₀ sheet k at₀ at m₀ m r e b = record {
   some = r.some;
   few = r.few;
@@ -188,52 +188,52 @@ turn_start n t b r h =
 
 module _ (h : Header) (table sheet : List ℕ) (k at m : ℕ) (r : Ready h table sheet k at m) where
   -- no tables are longer than the largest
-  pub tables_short : tables_length h.n h.t h.w ≤ largest_tables
+  pub tables_short : tables_length h.line.n h.line.t h.w ≤ largest_tables
   tables_short = mul-le-mul (bits_most h.w r.narrow) (mul-le-mul (mul-le-mul r.short r.few) r.few)
 
-  module _ (passed : ℕ) (left : passed < bits h.w * rounds h.t) where
+  module _ (passed : ℕ) (left : passed < bits h.w * rounds h.line.t) where
     -- no more than eight bits have rounds
-    pub passed_few : passed < 8 * rounds h.t
-    passed_few = omega (arith, left, mul-le-mul_right (rounds h.t) (bits_most h.w r.narrow))
+    pub passed_few : passed < 8 * rounds h.line.t
+    passed_few = omega (arith, left, mul-le-mul_right (rounds h.line.t) (bits_most h.w r.narrow))
 
     -- a round ends within the tables
-    pub round_ends : passed * h.n * h.n + h.n * h.n ≤ largest_tables
+    pub round_ends : passed * h.line.n * h.line.n + h.line.n * h.line.n ≤ largest_tables
     round_ends =
-        omega (arith, round_within h.n passed (bits h.w * rounds h.t) left, tables_rounds h.n h.t h.w, tables_short)
+        omega (arith, round_within h.line.n passed (bits h.w * rounds h.line.t) left, tables_rounds h.line.n h.line.t h.w, tables_short)
 
 -- all are counted at the tables' end
-pub all_counted : (h : Header) (table : List ℕ) (at : ℕ) → at ≡ tables_length h.n h.t h.w
-    → count at (to_write h.n h.marks table) ≡ how_many h table
+pub all_counted : (h : Header) (table : List ℕ) (at : ℕ) → at ≡ tables_length h.line.n h.line.t h.w
+    → count at (to_write h.line.n h.marks table) ≡ how_many h table
 unfolding how_many
 all_counted h table at e = rw e
 
 -- ---- from one marked station to the next
 
 module _ (h : Header) (table : List ℕ) (turn : Turn) (at : ℕ) (here : OfRound h turn at) where
-  round_is : Round h.n at
+  round_is : Round h.line.n at
   round_is =
-      rw (here.at_is, turn_start h.n h.t turn.bit turn.round here.round_low)
-      (round_rows h.n (turn.bit * rounds h.t + (turn.round - 1)))
+      rw (here.at_is, turn_start h.line.n h.line.t turn.bit turn.round here.round_low)
+      (round_rows h.line.n (turn.bit * rounds h.line.t + (turn.round - 1)))
 
   -- before the first
-  pub leapt_first : (r m : ℕ) → First h.marks h.n 0 r → m ≡ count at (to_write h.n h.marks table)
-      → m ≡ count (at + r * h.n) (to_write h.n h.marks table)
-  leapt_first r m f e = omega (arith, e, leap_first h.n h.marks table at round_is r f)
+  pub leapt_first : (r m : ℕ) → First h.marks h.line.n 0 r → m ≡ count at (to_write h.line.n h.marks table)
+      → m ≡ count (at + r * h.line.n) (to_write h.line.n h.marks table)
+  leapt_first r m f e = omega (arith, e, leap_first h.line.n h.marks table at round_is r f)
 
   -- after station i
-  pub leapt_on : (i r m : ℕ) → First h.marks h.n (i + 1) r → m ≡ count (at + i * h.n + h.n) (to_write h.n h.marks table)
-      → m ≡ count (at + r * h.n) (to_write h.n h.marks table)
+  pub leapt_on : (i r m : ℕ) → First h.marks h.line.n (i + 1) r → m ≡ count (at + i * h.line.n + h.line.n) (to_write h.line.n h.marks table)
+      → m ≡ count (at + r * h.line.n) (to_write h.line.n h.marks table)
   leapt_on i r m f e =
-      let z : at + (i + 1) * h.n ≡ at + i * h.n + h.n = omega (arith, next_row i h.n) in
-      let s = rw z at (skip h.n h.marks table at round_is (i + 1) r f.low f.high f.between) in
+      let z : at + (i + 1) * h.line.n ≡ at + i * h.line.n + h.line.n = omega (arith, next_row i h.line.n) in
+      let s = rw z at (skip h.line.n h.marks table at round_is (i + 1) r f.low f.high f.between) in
       omega (arith, e, s)
 
   -- a station's row in the round
-  pub sender_of : (i : ℕ) → i < h.n → OfSender h turn (i + 1) (at + i * h.n)
+  pub sender_of : (i : ℕ) → i < h.line.n → OfSender h turn (i + 1) (at + i * h.line.n)
   sender_of i l = record {
     at_is =
         let z : i + 1 - 1 ≡ i = omega arith in
-        rw z (omega (arith, here.at_is, place_from_start h.n turn.round i 0, place_from_start h.n turn.round 0 0, zero-mul h.n));
+        rw z (omega (arith, here.at_is, place_from_start h.line.n turn.round i 0, place_from_start h.line.n turn.round 0 0, zero-mul h.line.n));
     bit_below = here.bit_below;
     round_low = here.round_low;
     round_high = here.round_high;
@@ -243,34 +243,34 @@ module _ (h : Header) (table : List ℕ) (turn : Turn) (at : ℕ) (here : OfRoun
 
 -- ---- the rounds, as long as records are left
 
-module _ (h : Header) (table : List ℕ) (passed at done : ℕ) (low : passed ≤ bits h.w * rounds h.t) (start : at ≡ passed * h.n * h.n)
-    (is : done ≡ count at (to_write h.n h.marks table)) where
+module _ (h : Header) (table : List ℕ) (passed at done : ℕ) (low : passed ≤ bits h.w * rounds h.line.t) (start : at ≡ passed * h.line.n * h.line.n)
+    (is : done ≡ count at (to_write h.line.n h.marks table)) where
   -- no more than all are there
   pub done_most : done ≤ how_many h table
   unfolding how_many
   done_most =
-      let w : at ≤ tables_length h.n h.t h.w = rw (start, tables_rounds h.n h.t h.w) (mul-le-mul_right h.n (mul-le-mul_right h.n low)) in
-      omega (arith, is, widen at (tables_length h.n h.t h.w) (to_write h.n h.marks table) w)
+      let w : at ≤ tables_length h.line.n h.line.t h.w = rw (start, tables_rounds h.line.n h.line.t h.w) (mul-le-mul_right h.line.n (mul-le-mul_right h.line.n low)) in
+      omega (arith, is, widen at (tables_length h.line.n h.line.t h.w) (to_write h.line.n h.marks table) w)
 
   -- where not all are there, a round is left
-  pub round_left : done < how_many h table → passed < bits h.w * rounds h.t
+  pub round_left : done < how_many h table → passed < bits h.w * rounds h.line.t
   round_left l =
       ⊎_elim
-      (λ (e : passed ≡ bits h.w * rounds h.t).
-      let f : at ≡ tables_length h.n h.t h.w = start ∙ rw (e, tables_rounds h.n h.t h.w) in
+      (λ (e : passed ≡ bits h.w * rounds h.line.t).
+      let f : at ≡ tables_length h.line.n h.line.t h.w = start ∙ rw (e, tables_rounds h.line.n h.line.t h.w) in
       absurd (omega (arith, is, all_counted h table at f)))
-      (λ (e : passed < bits h.w * rounds h.t). e)
+      (λ (e : passed < bits h.w * rounds h.line.t). e)
       (eq-or-lt_of_le low)
 
 -- the round after so many is one of a bit's
-pub turn_there : (h : Header) (turn : Turn) (passed at : ℕ) → passed < bits h.w * rounds h.t → at ≡ passed * h.n * h.n
-    → turn.bit ≡ passed / rounds h.t → turn.round ≡ passed % rounds h.t + 1 → OfRound h turn at
+pub turn_there : (h : Header) (turn : Turn) (passed at : ℕ) → passed < bits h.w * rounds h.line.t → at ≡ passed * h.line.n * h.line.n
+    → turn.bit ≡ passed / rounds h.line.t → turn.round ≡ passed % rounds h.line.t + 1 → OfRound h turn at
 turn_there h turn passed at l e b r =
-    let some : 0 < rounds h.t = omega arith in
+    let some : 0 < rounds h.line.t = omega arith in
     let low : 1 ≤ turn.round = omega arith in
-    let all : turn.bit * rounds h.t + (turn.round - 1) ≡ passed = rw (b, r) (omega (arith, div-add-mod' passed (rounds h.t))) in
+    let all : turn.bit * rounds h.line.t + (turn.round - 1) ≡ passed = rw (b, r) (omega (arith, div-add-mod' passed (rounds h.line.t))) in
     record {
-      at_is = e ∙ sym (rw all at (turn_start h.n h.t turn.bit turn.round low));
+      at_is = e ∙ sym (rw all at (turn_start h.line.n h.line.t turn.bit turn.round low));
       bit_below = rw b ((div-lt_iff_lt-mul some).1 l);
       round_low = low;
       round_high = omega (arith, r, mod-lt passed some);

@@ -25,31 +25,31 @@ Goes_on h table k sheet₀ m₀ sheet₁ m₁ =
 
 -- k records are to be written from the tables of the header's line into a sheet that has room for them; those before the place `at` are m
 pub record Ready (h : Header) (table sheet : List ℕ) (k at m : ℕ) : Type 0 where
-  pub some : 1 ≤ h.n
-  pub few : h.n ≤ 32
-  pub short : rounds h.t ≤ 36
+  pub some : 1 ≤ h.line.n
+  pub few : h.line.n ≤ 32
+  pub short : rounds h.line.t ≤ 36
   pub narrow : h.w ≤ most_bits
-  pub whole : length table ≡ tables_length h.n h.t h.w
+  pub whole : length table ≡ tables_length h.line.n h.line.t h.w
   pub all : k ≡ how_many h table
   pub most : k ≤ 4096
   pub room : length sheet ≡ 12 + 8 * k
-  pub before : m ≡ count at (to_write h.n h.marks table)
+  pub before : m ≡ count at (to_write h.line.n h.marks table)
 
 -- the start of a sender's bytes in a round of a bit; the sender is counted from 1
 pub record OfSender (h : Header) (turn : Turn) (from at : ℕ) : Type 0 where
-  pub at_is : at ≡ turn.bit * table_length h.n h.t + place h.n turn.round (from_0 from) 0
+  pub at_is : at ≡ turn.bit * table_length h.line.n h.line.t + place h.line.n turn.round (from_0 from) 0
   pub bit_below : turn.bit < bits h.w
   pub round_low : 1 ≤ turn.round
-  pub round_high : turn.round ≤ rounds h.t
+  pub round_high : turn.round ≤ rounds h.line.t
   pub from_low : 1 ≤ from
-  pub from_high : from ≤ h.n
+  pub from_high : from ≤ h.line.n
 
 -- the start of a round of a bit
 pub record OfRound (h : Header) (turn : Turn) (at : ℕ) : Type 0 where
-  pub at_is : at ≡ turn.bit * table_length h.n h.t + place h.n turn.round 0 0
+  pub at_is : at ≡ turn.bit * table_length h.line.n h.line.t + place h.line.n turn.round 0 0
   pub bit_below : turn.bit < bits h.w
   pub round_low : 1 ≤ turn.round
-  pub round_high : turn.round ≤ rounds h.t
+  pub round_high : turn.round ≤ rounds h.line.t
 
 -- `sheet` of Sheet.antt: a parameter has that name
 abbrev pub sheet_of : List ℕ → List ℕ → List ℕ

@@ -16,7 +16,7 @@ record_of n t table p i = eight (round_at n t p) (from_at n p + 1) (to_at n p + 
 
 -- record m of k
 unfoldable pub record_bytes : Header → List ℕ → ℕ → ℕ → List ℕ
-record_bytes h table k m = record_of h.n h.t table (place_written h table m) (next_index k m)
+record_bytes h table k m = record_of h.line.n h.line.t table (place_written h table m) (next_index k m)
 
 -- records 1 to m of k, one after the other
 unfoldable pub records_bytes : Header → List ℕ → ℕ → ℕ → List ℕ

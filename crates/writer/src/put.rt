@@ -65,11 +65,11 @@ fn put_row(
     m: usize,
 ) -> usize
     requires { Ready h table.now sheet.old k at m × OfSender h turn from at × (marked h.marks (from_0 from) ≡ true) }
-    ensures { (result ≡ count (at + h.n) (to_write h.n h.marks table.now)) × Goes_on h table.now k sheet.old m sheet.new result }
+    ensures { (result ≡ count (at + h.line.n) (to_write h.line.n h.marks table.now)) × Goes_on h table.now k sheet.old m sheet.new result }
 {
     let mut done = m;
     let mut j: u8 = 0;
-    while j < h.n {
+    while j < h.line.n {
         let ballot = table[at + (j as usize)];
         done = put_byte(sheet, k, done, turn, from, j + 1, ballot);
         j += 1;
@@ -88,13 +88,13 @@ fn put_round(
     at: usize,
     m: usize,
 ) -> usize
-    requires { Ready h table.now sheet.old k at m × OfRound h turn at × Leaps h.marks h.n to.now }
-    ensures { (result ≡ count (at + h.n * h.n) (to_write h.n h.marks table.now)) × Goes_on h table.now k sheet.old m sheet.new result }
+    requires { Ready h table.now sheet.old k at m × OfRound h turn at × Leaps h.marks h.line.n to.now }
+    ensures { (result ≡ count (at + h.line.n * h.line.n) (to_write h.line.n h.marks table.now)) × Goes_on h table.now k sheet.old m sheet.new result }
 {
-    let n = h.n as usize;
+    let n = h.line.n as usize;
     let mut done = m;
     let mut i = to[0];
-    while i < h.n {
+    while i < h.line.n {
         done = put_row(h, table, sheet, k, turn, i + 1, at + (i as usize) * n, done);
         i = to[(i as usize) + 1];
     }
@@ -106,14 +106,9 @@ fn put_records(h: Header, table: &[u8], sheet: &mut [u8], k: usize)
     requires { Ready h table.now sheet.old k 0 0 }
     ensures { Goes_on h table.now k sheet.old 0 sheet.new k }
 {
-    let to = selection::leaps(h.marks, h.n);
-    let n = h.n as usize;
-    let line = Line {
-        n: h.n,
-        t: h.t,
-        upper: h.upper,
-    };
-    let last = line.rounds();
+    let to = selection::leaps(h.marks, h.line.n);
+    let n = h.line.n as usize;
+    let last = h.line.rounds();
     let mut done: usize = 0;
     let mut passed: usize = 0;
     let mut at: usize = 0;

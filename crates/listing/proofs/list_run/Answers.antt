@@ -16,10 +16,10 @@ slice_bounds-outcomes-end c =
 
 pub slice_bounds-list_outcomes-end : goal.slice_bounds-list_outcomes-end
 slice_bounds-list_outcomes-end c =
-    let h : outcome_size * c.args.header.n ≤ largest_outcomes = omega (arith, few _ _ _ _ [] c.requires) in
-    sym (length-take-le (outcome_size * c.args.header.n) (replicate largest_outcomes 0) h)
+    let h : outcome_size * c.args.header.line.n ≤ largest_outcomes = omega (arith, few _ _ _ _ [] c.requires) in
+    sym (length-take-le (outcome_size * c.args.header.line.n) (replicate largest_outcomes 0) h)
 
 pub list_outcomes-requires : goal.list_outcomes-requires
 list_outcomes-requires c =
-    let h : outcome_size * c.args.header.n ≤ largest_outcomes = omega (arith, few _ _ _ _ [] c.requires) in
-    bits_begin _ _ _ _ _ c.requires (length-take-le (outcome_size * c.args.header.n) (replicate largest_outcomes 0) h)
+    let h : outcome_size * c.args.header.line.n ≤ largest_outcomes = omega (arith, few _ _ _ _ [] c.requires) in
+    bits_begin _ _ _ _ _ c.requires (length-take-le (outcome_size * c.args.header.line.n) (replicate largest_outcomes 0) h)

@@ -14,10 +14,10 @@ slice_bounds-outcomes-end c =
 
 pub slice_bounds-list_seeds-end : goal.slice_bounds-list_seeds-end
 slice_bounds-list_seeds-end c =
-    let h : outcome_size * c.args.header.n ≤ largest_outcomes = omega (arith, few _ _ _ _ c.requires) in
-    sym (length-take-le (outcome_size * c.args.header.n) (replicate largest_outcomes 0) h)
+    let h : outcome_size * c.args.header.line.n ≤ largest_outcomes = omega (arith, few _ _ _ _ c.requires) in
+    sym (length-take-le (outcome_size * c.args.header.line.n) (replicate largest_outcomes 0) h)
 
 pub list_seeds-requires : goal.list_seeds-requires
 list_seeds-requires c =
-    let h : outcome_size * c.args.header.n ≤ largest_outcomes = omega (arith, few _ _ _ _ c.requires) in
-    ready_header _ _ _ _ _ c.requires (length-take-le (outcome_size * c.args.header.n) (replicate largest_outcomes 0) h)
+    let h : outcome_size * c.args.header.line.n ≤ largest_outcomes = omega (arith, few _ _ _ _ c.requires) in
+    ready_header _ _ _ _ _ c.requires (length-take-le (outcome_size * c.args.header.line.n) (replicate largest_outcomes 0) h)

@@ -30,7 +30,7 @@ in_table-requires c =
     let a = c.args.header in
     record {
       few = c.if-header-gt32.false;
-      whole = c.if-table-tables_len.false ∙ c.tables_len.ensures ∙ tables_rounds a.n a.t a.w ∙ rw (c.rounds.ensures, c.bits.ensures);
+      whole = c.if-table-tables_len.false ∙ c.tables_len.ensures ∙ tables_rounds a.line.n a.line.t a.w ∙ rw (c.rounds.ensures, c.bits.ensures);
     }
 
 pub returns : goal.returns
@@ -39,4 +39,4 @@ returns c =
     let h = a.header in
     counted_is h a.table.now c.if-header-gt32.false _
     (c.if-table-tables_len.false ∙ c.tables_len.ensures)
-    (rw (tables_rounds h.n h.t h.w) (rw (c.rounds.ensures, c.bits.ensures) at c.in_table.ensures))
+    (rw (tables_rounds h.line.n h.line.t h.w) (rw (c.rounds.ensures, c.bits.ensures) at c.in_table.ensures))

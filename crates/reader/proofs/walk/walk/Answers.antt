@@ -12,7 +12,7 @@ overflow_cast-last c =
     let s = c.args.sheet.now in
     let p = c.requires in
     let sound = opened_sound s p.judged in
-    let t : c.args.header.t ≡ (header s).t = ap (λ (h : Header). h.t) p.header_is in
+    let t : c.args.header.line.t ≡ (header s).line.t = ap (λ (h : Header). h.line.t) p.header_is in
     omega (arith, c.rounds-last.ensures, sound.fits, sound.most)
 
 pub walk_chain-requires : goal.walk_chain-requires

@@ -16,7 +16,7 @@ use Rattle.writer.proofs.put.put_records.Goals as goal
 
 pub loop-done-init : goal.loop-done-init
 loop-done-init c =
-    (omega arith, sym (no_rounds c.args.h.n), refl, c.requires.before, λ z e. e)
+    (omega arith, sym (no_rounds c.args.h.line.n), refl, c.requires.before, λ z e. e)
 
 pub turn_after-here-requires : goal.turn_after-here-requires
 turn_after-here-requires c =
@@ -67,7 +67,7 @@ loop-done-preserved c =
     let p = c.put_round-done in
     let r = round_left a.h a.table.now l.passed l.at l.done l.invariant.0 l.invariant.1 l.invariant.3 (omega (arith, c.requires.all)) in (
       omega (arith, r),
-      omega (arith, next_round a.h.n l.passed, l.invariant.1),
+      omega (arith, next_round a.h.line.n l.passed, l.invariant.1),
       p.auto.sheet ∙ l.invariant.2,
       p.ensures.0,
       λ z q. p.ensures.1 z (l.invariant.4 z q),

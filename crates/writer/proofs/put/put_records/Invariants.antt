@@ -16,8 +16,8 @@ use Rattle.writer.proofs.put.put_records.Given as goal
 
 abbrev pub invariant-loop-done : goal.invariant-loop-done
 invariant-loop-done l =
-    (l.passed ≤ bits l.h.w * rounds l.h.t) × (l.at ≡ l.passed * l.h.n * l.h.n) × (length l.sheet ≡ length l.initial.sheet)
-    × (l.done ≡ count l.at (to_write l.h.n l.h.marks l.table)) × Goes_on l.h l.table l.k l.initial.sheet 0 l.sheet l.done
+    (l.passed ≤ bits l.h.w * rounds l.h.line.t) × (l.at ≡ l.passed * l.h.line.n * l.h.line.n) × (length l.sheet ≡ length l.initial.sheet)
+    × (l.done ≡ count l.at (to_write l.h.line.n l.h.marks l.table)) × Goes_on l.h l.table l.k l.initial.sheet 0 l.sheet l.done
 
 abbrev pub decreases-loop-done : goal.decreases-loop-done
-decreases-loop-done l = bits l.h.w * rounds l.h.t - l.passed
+decreases-loop-done l = bits l.h.w * rounds l.h.line.t - l.passed

@@ -17,7 +17,7 @@ use Rattle.writer.proofs.put.put_round.Goals as goal
 pub loop-i-init : goal.loop-i-init
 loop-i-init c =
     let a = c.args in
-    let f = leaps_first c.args.h.marks c.args.h.n _ c.requires.2 c.requires.0.few 0 (omega arith) in
+    let f = leaps_first c.args.h.marks c.args.h.line.n _ c.requires.2 c.requires.0.few 0 (omega arith) in
     (f.high, f.there, refl, leapt_first a.h a.table.now a.turn a.at c.requires.1 _ a.m f c.requires.0.before, λ z e. e)
 
 pub overflow_mul-i : goal.overflow_mul-i
@@ -28,7 +28,7 @@ overflow_add-at c =
     let l = c.loop-i in
     let a = c.args in
     let o = sender_of a.h a.table.now a.turn a.at c.requires.1 l.i (omega arith) in
-    let p = place_inside a.h a.table.now a.k a.turn (l.i + 1) (a.at + l.i * a.h.n) o 0 (omega arith) in
+    let p = place_inside a.h a.table.now a.k a.turn (l.i + 1) (a.at + l.i * a.h.line.n) o 0 (omega arith) in
     omega (arith, p, tables_short _ _ _ _ _ _ c.requires.0)
 
 pub put_row-done-requires : goal.put_row-done-requires
@@ -44,14 +44,14 @@ put_row-done-requires c =
 pub loop-i-smaller : goal.loop-i-smaller
 loop-i-smaller c =
     let l = c.loop-i in
-    omega (arith, (leaps_first c.args.h.marks c.args.h.n _ c.requires.2 c.requires.0.few (l.i + 1) (omega arith)).low)
+    omega (arith, (leaps_first c.args.h.marks c.args.h.line.n _ c.requires.2 c.requires.0.few (l.i + 1) (omega arith)).low)
 
 pub loop-i-preserved : goal.loop-i-preserved
 loop-i-preserved c =
     let l = c.loop-i in
     let a = c.args in
     let p = c.put_row-done in
-    let f = leaps_first c.args.h.marks c.args.h.n _ c.requires.2 c.requires.0.few (l.i + 1) (omega arith) in (
+    let f = leaps_first c.args.h.marks c.args.h.line.n _ c.requires.2 c.requires.0.few (l.i + 1) (omega arith) in (
       f.high,
       f.there,
       p.auto.sheet ∙ l.invariant.2,
@@ -66,5 +66,5 @@ pub returns : goal.returns
 returns c =
     let l = c.loop-i in
     let a = c.args in
-    let e : l.i ≡ a.h.n = omega arith in
+    let e : l.i ≡ a.h.line.n = omega arith in
     (rw e at l.invariant.3, l.invariant.4)

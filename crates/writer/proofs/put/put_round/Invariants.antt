@@ -16,8 +16,8 @@ use Rattle.writer.proofs.put.put_round.Given as goal
 
 abbrev pub invariant-loop-i : goal.invariant-loop-i
 invariant-loop-i l =
-    (l.i ≤ l.h.n) × (l.i < l.h.n → marked l.h.marks l.i ≡ true) × (length l.sheet ≡ length l.initial.sheet)
-    × (l.done ≡ count (l.at + l.i * l.h.n) (to_write l.h.n l.h.marks l.table)) × Goes_on l.h l.table l.k l.initial.sheet l.m l.sheet l.done
+    (l.i ≤ l.h.line.n) × (l.i < l.h.line.n → marked l.h.marks l.i ≡ true) × (length l.sheet ≡ length l.initial.sheet)
+    × (l.done ≡ count (l.at + l.i * l.h.line.n) (to_write l.h.line.n l.h.marks l.table)) × Goes_on l.h l.table l.k l.initial.sheet l.m l.sheet l.done
 
 abbrev pub decreases-loop-i : goal.decreases-loop-i
-decreases-loop-i l = l.h.n - l.i
+decreases-loop-i l = l.h.line.n - l.i

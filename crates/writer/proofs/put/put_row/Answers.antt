@@ -55,5 +55,5 @@ shape_of-sheet c = c.loop-j.invariant.1
 pub returns : goal.returns
 returns c =
     let l = c.loop-j in
-    let e : l.j ≡ c.args.h.n = omega arith in
+    let e : l.j ≡ c.args.h.line.n = omega arith in
     (rw e at l.invariant.2, l.invariant.3)

@@ -12,7 +12,7 @@ use Rattle.writer.proofs.put.put_row.Given as goal
 
 abbrev pub invariant-loop-j : goal.invariant-loop-j
 invariant-loop-j l =
-    (l.j ≤ l.h.n) × (length l.sheet ≡ length l.initial.sheet) × (l.done ≡ count (l.at + l.j) (to_write l.h.n l.h.marks l.table)) × Goes_on l.h l.table l.k l.initial.sheet l.m l.sheet l.done
+    (l.j ≤ l.h.line.n) × (length l.sheet ≡ length l.initial.sheet) × (l.done ≡ count (l.at + l.j) (to_write l.h.line.n l.h.marks l.table)) × Goes_on l.h l.table l.k l.initial.sheet l.m l.sheet l.done
 
 abbrev pub decreases-loop-j : goal.decreases-loop-j
-decreases-loop-j l = l.h.n - l.j
+decreases-loop-j l = l.h.line.n - l.j
