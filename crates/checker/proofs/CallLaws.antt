@@ -1,10 +1,10 @@
 -- The rules are those of the station's calls: a station's calls in a row on its rows of the log are its automaton's. Assumes nothing.
 use Prim.Native.Nat.{ℕ, ◌+◌, ◌-◌, ◌≤◌, ◌<◌}
+use Rattle.refusal.specs.Cause.{no_cause}
 use mathlib.Core.Path.{◌≡◌, sym}
 use native.Mathlib.Omega.{arith}
 use lib.Pow.{pow_pos}
 use Rattle.line.proofs.MarksLaws.{marked_above}
-use Rattle.refusal.specs.declared.cause.Verdict.TheVariants.{Accepted}
 use Rattle.state.specs.Judgement.{opening_verdict}
 use Rattle.state.proofs.SoundLaws.{opening_accepts}
 use Rattle.station.specs.Singly.{Automatic}
@@ -16,7 +16,7 @@ use Rattle.checker.proofs.AnswerLaws.{checkable_alone}
 
 module _ (L : Logged) (i v : ℕ) where
   -- it is opened with numbers that are not refused
-  accepted_opening : verdict_of L ≡ Accepted → i < L.n → v ≤ 1 → opening_verdict L.n L.t L.T L.sender (i + 1) v ≡ Accepted
+  accepted_opening : verdict_of L ≡ no_cause → i < L.n → v ≤ 1 → opening_verdict L.n L.t L.T L.sender (i + 1) v ≡ no_cause
   accepted_opening accepted h bit =
       let C = checkable_alone L accepted in
       opening_accepts L.n L.t L.T L.sender (i + 1) v 0

@@ -13,13 +13,6 @@ use line::{Line, ballot};
 use refusal::cause::{Cause, Verdict};
 use round::Stations;
 
-// The answer: bit i - 1 is 1 if station i broke the rules.
-#[derive(Clone, Copy)]
-pub enum Checked {
-    Broke(u32),
-    Refused(Cause),
-}
-
 // The stations after some rounds, and 1 for each that has sent what it should.
 #[derive(Clone, Copy)]
 struct Course {
@@ -31,11 +24,10 @@ struct Course {
 fn judge(line: Line, sender: u8, log_len: usize, outcomes_len: usize) -> Verdict
     ensures { result ≡ check_verdict line.n line.t line.upper sender log_len outcomes_len }
 {
-    let a = header::line_verdict(line);
-    let b = header::station_number(line.n, sender);
-    let c = header::exact_length(line.table_len(), log_len);
-    let d = header::exact_length(line.outcomes_len(), outcomes_len);
-    a.or_else(b.or_else(c.or_else(d)))
+    header::line_verdict(line)?;
+    header::station_number(line.n, sender)?;
+    header::exact_length(line.table_len(), log_len)?;
+    header::exact_length(line.outcomes_len(), outcomes_len)
 }
 
 // The value that is tried: what the sender's first byte says that it was opened with.
@@ -159,13 +151,10 @@ fn found(line: Line, sender: u8, log: &[u8], outcomes: &[u8]) -> u32
     breaches(line.n as usize, course, outcomes)
 }
 
-// The stations that broke the rules, by a log and outcomes of a line.
-pub fn check(line: Line, sender: u8, log: &[u8], outcomes: &[u8]) -> Checked
+// The stations that broke the rules, by a log and outcomes of a line: bit i - 1 is 1 if station i did.
+pub fn check(line: Line, sender: u8, log: &[u8], outcomes: &[u8]) -> Result<u32, Cause>
     ensures { Checks (logged line.n line.t line.upper sender log.now outcomes.now) result }
 {
-    let verdict = judge(line, sender, log.len(), outcomes.len());
-    match verdict {
-        Verdict::Accepted => Checked::Broke(found(line, sender, log, outcomes)),
-        Verdict::Refused(c) => Checked::Refused(c),
-    }
+    judge(line, sender, log.len(), outcomes.len())?;
+    Ok(found(line, sender, log, outcomes))
 }

@@ -1,17 +1,14 @@
 -- A station and the answers of its calls as numbers, and what each call promises. What is answered is what the station's calls by value answer
 -- (crates/station/specs/Answers.antt): each case of their enums has its number and its values here.
 use Rattle.std.specs.Prelude.{ℕ, ◌+◌, ◌*◌, ◌/◌, ◌%◌, ◌≡◌, List}
-use Rattle.refusal.specs.Cause.{answer_word}
+use Rattle.refusal.specs.declared.cause.Cause.{Cause}
+use Rattle.std.specs.declared.result.Result.{Result}
+use Rattle.std.specs.declared.result.Result.TheVariants.{Ok, Err}
+use Rattle.refusal.specs.Cause.{answer_word, code, value_or_0}
 use Rattle.state.specs.declared.Station.{Station}
-use Rattle.station.specs.declared.Opened.{Opened}
-use Rattle.station.specs.declared.Opened.TheVariants as opened
-use Rattle.station.specs.declared.Told.{Told}
-use Rattle.station.specs.declared.Told.TheVariants as told
-use Rattle.station.specs.declared.Advanced.{Advanced}
-use Rattle.station.specs.declared.Advanced.TheVariants as advanced
 use Rattle.station.specs.declared.StationResult.{StationResult}
 use Rattle.station.specs.declared.StationResult.TheVariants as station_result
-use Rattle.station.specs.Answers.{opened_number, open_answer, told_number, ballot_answer, advanced_number, advance_answer, result_number, result_answer}
+use Rattle.station.specs.Answers.{open_answer, ballot_answer, advance_answer, result_answer}
 
 -- five bytes as one number, the lowest first
 abbrev pub word : ℕ → ℕ → ℕ → ℕ → ℕ → ℕ
@@ -39,42 +36,38 @@ station_of n t T sender own state = record {
 -- ---- the values of each answer
 
 -- the new state; none where it is refused
-abbrev pub opened_word : Opened → ℕ
-opened_word (opened.Ready s) = state_word s
-opened_word (opened.Refused c) = 0
+abbrev pub opened_word : Result Station Cause → ℕ
+opened_word (Ok s) = state_word s
+opened_word (Err c) = 0
 
 -- the ballot
-abbrev pub told_word : Told → ℕ
-told_word (told.Ballot b) = b
-told_word (told.Refused c) = 0
-
 -- the next state; that of the station handed in where it is refused, since causes 7 and 8 leave the station as it was
-abbrev pub advanced_word : Station → Advanced → ℕ
-advanced_word before (advanced.Next s) = state_word s
-advanced_word before (advanced.Refused c) = state_word before
+abbrev pub advanced_word : Station → Result Station Cause → ℕ
+advanced_word before (Ok s) = state_word s
+advanced_word before (Err c) = state_word before
 
 -- 0 and the round while running, 1 and value, grade, flag and the count when done
-abbrev pub result_word : StationResult → ℕ
-result_word (station_result.Running r) = word 0 r 0 0 0
-result_word (station_result.Done v g f k) = word 1 v g f k
-result_word (station_result.Refused c) = 0
+abbrev pub result_word : Result StationResult Cause → ℕ
+result_word (Ok (station_result.Running r)) = word 0 r 0 0 0
+result_word (Ok (station_result.Done v g f k)) = word 1 v g f k
+result_word (Err c) = 0
 
 -- ---- the promises
 
 -- `vembopu_open`: what `station::open` answers
 pub record OpenAnswer (n t T sender own value r : ℕ) : Type 0 where
-  pub answer : let o = open_answer n t T sender own value in r ≡ answer_word (opened_number o) (opened_word o)
+  pub answer : let o = open_answer n t T sender own value in r ≡ answer_word (code o) (opened_word o)
 
 -- `vembopu_ballot`: what `station::ballot` answers
 pub record BallotAnswer (n t T sender own state r : ℕ) : Type 0 where
-  pub answer : let o = ballot_answer (station_of n t T sender own state) in r ≡ answer_word (told_number o) (told_word o)
+  pub answer : let o = ballot_answer (station_of n t T sender own state) in r ≡ answer_word (code o) (value_or_0 o)
 
 -- `vembopu_advance`: what `station::advance` answers
 pub record AdvanceAnswer (n t T sender own state : ℕ) (row : List ℕ) (r : ℕ) : Type 0 where
   pub answer : let s = station_of n t T sender own state in
       let o = advance_answer s row in
-      r ≡ answer_word (advanced_number o) (advanced_word s o)
+      r ≡ answer_word (code o) (advanced_word s o)
 
 -- `vembopu_result`: what `station::result` answers
 pub record ResultAnswer (n t T sender own state r : ℕ) : Type 0 where
-  pub answer : let o = result_answer (station_of n t T sender own state) in r ≡ answer_word (result_number o) (result_word o)
+  pub answer : let o = result_answer (station_of n t T sender own state) in r ≡ answer_word (code o) (result_word o)

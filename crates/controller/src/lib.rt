@@ -4,13 +4,11 @@
 #![tactic(auto)]
 
 ghost use Rattle.std.specs.Prelude.{◌≡◌};
-ghost use Rattle.controller.specs.Words.{station_of, state_word, opened_word, told_word, advanced_word, result_word};
+ghost use Rattle.controller.specs.Words.{station_of, state_word, opened_word, advanced_word, result_word};
 ghost use Rattle.controller.specs.Words.{OpenAnswer, BallotAnswer, AdvanceAnswer, ResultAnswer};
 
 use refusal::cause;
-use refusal::cause::Cause;
 use state::Station;
-use station::{Advanced, Opened, StationResult, Told};
 
 pub mod words;
 
@@ -18,10 +16,9 @@ pub mod words;
 pub fn vembopu_open(n: u8, t: u8, upper: u8, sender: u8, own: u8, value: u8) -> u64
     ensures { OpenAnswer n t upper sender own value result }
 {
-    let opened = station::open(n, t, upper, sender, own, value);
-    match opened {
-        Opened::Ready(s) => cause::answer(0, words::state(s)),
-        Opened::Refused(c) => cause::answer(c.number(), 0),
+    match station::open(n, t, upper, sender, own, value) {
+        Ok(s) => cause::answer(0, words::state(s)),
+        Err(cause) => cause::answer(cause.number(), 0),
     }
 }
 
@@ -29,10 +26,9 @@ pub fn vembopu_open(n: u8, t: u8, upper: u8, sender: u8, own: u8, value: u8) -> 
 pub fn vembopu_ballot(n: u8, t: u8, upper: u8, sender: u8, own: u8, state: u64) -> u64
     ensures { BallotAnswer n t upper sender own state result }
 {
-    let told = station::ballot(words::station(n, t, upper, sender, own, state));
-    match told {
-        Told::Ballot(b) => cause::answer(0, b as u64),
-        Told::Refused(c) => cause::answer(c.number(), 0),
+    match station::ballot(words::station(n, t, upper, sender, own, state)) {
+        Ok(ballot) => cause::answer(0, ballot as u64),
+        Err(cause) => cause::answer(cause.number(), 0),
     }
 }
 
@@ -41,10 +37,9 @@ pub fn vembopu_advance(n: u8, t: u8, upper: u8, sender: u8, own: u8, state: u64,
     ensures { AdvanceAnswer n t upper sender own state row.now result }
 {
     let before = words::station(n, t, upper, sender, own, state);
-    let advanced = station::advance(before, row);
-    match advanced {
-        Advanced::Next(s) => cause::answer(0, words::state(s)),
-        Advanced::Refused(c) => cause::answer(c.number(), words::state(before)),
+    match station::advance(before, row) {
+        Ok(s) => cause::answer(0, words::state(s)),
+        Err(cause) => cause::answer(cause.number(), words::state(before)),
     }
 }
 
@@ -52,15 +47,8 @@ pub fn vembopu_advance(n: u8, t: u8, upper: u8, sender: u8, own: u8, state: u64,
 pub fn vembopu_result(n: u8, t: u8, upper: u8, sender: u8, own: u8, state: u64) -> u64
     ensures { ResultAnswer n t upper sender own state result }
 {
-    let found = station::result(words::station(n, t, upper, sender, own, state));
-    match found {
-        StationResult::Running(r) => cause::answer(0, words::five(0, r, 0, 0, 0)),
-        StationResult::Done {
-            value,
-            grade,
-            flag,
-            garbled,
-        } => cause::answer(0, words::five(1, value, grade, flag, garbled)),
-        StationResult::Refused(c) => cause::answer(c.number(), 0),
+    match station::result(words::station(n, t, upper, sender, own, state)) {
+        Ok(found) => cause::answer(0, words::result(found)),
+        Err(cause) => cause::answer(cause.number(), 0),
     }
 }

@@ -15,10 +15,9 @@ use Rattle.line.specs.Marks.{marked}
 use Rattle.line.specs.Writing.{over, Each}
 use Rattle.line.proofs.CountLaws.{none_passes, count_zero, count_hit, count_miss, count_le}
 use Rattle.line.proofs.LineLaws.{place_from_start, round_there}
-use Rattle.refusal.specs.Cause.{written}
+use Rattle.refusal.specs.Cause.{written, no_cause}
 use Rattle.header.specs.Header.{marks_within}
-use Rattle.refusal.specs.declared.cause.Verdict.{Verdict}
-use Rattle.refusal.specs.declared.cause.Verdict.TheVariants.{Accepted}
+use Rattle.refusal.specs.Cause.{Verdict}
 use Rattle.refusal.proofs.VerdictLaws.{judged, accepted_false, both_accepted}
 use Rattle.header.proofs.HeaderLaws.{line_sound, length_exact}
 use Rattle.broadcast.specs.Exchange.{Setting, sends, first_row, second_row, y_of, flag_of, z, y, grade}
@@ -194,7 +193,7 @@ not_foreign true b e g = absurd (true≢false g)
 not_foreign false b e g = ltb-false 1 b e
 
 module _ (n t T marks : ℕ) (inputs : List ℕ) where
-  inputs_bits : length inputs ≡ n → inputs_verdict n marks inputs ≡ Accepted → (i : ℕ) → Good n (marked marks) i → at inputs i ≤ 1
+  inputs_bits : length inputs ≡ n → inputs_verdict n marks inputs ≡ no_cause → (i : ℕ) → Good n (marked marks) i → at inputs i ≤ 1
   unfolding inputs_verdict foreign_inputs
   inputs_bits e a i g =
       not_foreign (marked marks i) (at inputs i) (none_passes n _ none i g.0) g.1
@@ -204,7 +203,7 @@ module _ (n t T marks : ℕ) (inputs : List ℕ) where
 
   -- an accepted exchange is ready
   pub ready : (table_size outcomes_size : ℕ) (answer : Verdict) → answer ≡ exchange_verdict n t T marks inputs table_size outcomes_size
-      → answer ≡ Accepted → Ready n t T marks inputs table_size outcomes_size
+      → answer ≡ no_cause → Ready n t T marks inputs table_size outcomes_size
   unfolding exchange_verdict Bits
   ready table_size outcomes_size answer v accepted =
       let (a, e₂) = both_accepted _ _ (sym v ∙ accepted) in

@@ -3,11 +3,10 @@ use Rattle.std.specs.Prelude.{ℕ, ◌≡◌, not, ◌&&◌, List, eqb, ltb, len
 use Rattle.line.specs.Count.{count}
 use Rattle.line.specs.Line.{exchange_length, outcomes_length}
 use Rattle.line.specs.Marks.{marked}
-use Rattle.refusal.specs.Cause.{Judged, refused_if, ◌or_else◌, written}
+use Rattle.refusal.specs.Cause.{Judged, refused_if, ◌or_else◌, written, no_cause}
 use Rattle.header.specs.Header.{line_verdict, marks_within, exact_length}
 use Rattle.refusal.specs.declared.cause.Cause.TheVariants.{Value}
-use Rattle.refusal.specs.declared.cause.Verdict.{Verdict}
-use Rattle.refusal.specs.declared.cause.Verdict.TheVariants.{Accepted}
+use Rattle.refusal.specs.Cause.{Verdict}
 use Rattle.broadcast.specs.Station.{at}
 use Rattle.broadcast.specs.Bytes.{exchange_outcomes}
 use Rattle.broadcast.specs.Guarantees.{GradedConsensus}
@@ -35,4 +34,4 @@ exchange_verdict n t T marks inputs table_size outcomes_size =
 pub record Exchanged (n t T marks : ℕ) (inputs table before after : List ℕ) (answer : Verdict) : Type 0 where
   pub judged : Judged (exchange_verdict n t T marks inputs (length table) (length before)) answer
   pub outcomes_are : after ≡ written answer (exchange_outcomes n t T marks inputs table) before
-  pub graded_consensus : answer ≡ Accepted → GradedConsensus n t T (marked marks) (at inputs) (value_at after) (grade_at after)
+  pub graded_consensus : answer ≡ no_cause → GradedConsensus n t T (marked marks) (at inputs) (value_at after) (grade_at after)

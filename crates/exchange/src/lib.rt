@@ -12,6 +12,7 @@ ghost use Rattle.exchange.specs.Promise.{foreign_inputs, inputs_verdict, exchang
 ghost use Rattle.exchange.specs.Rounds.{Bits, Ready, Graded};
 
 use line::{Line, marks};
+use refusal::cause;
 use refusal::cause::{Cause, Verdict};
 use round::Stations;
 use step::Part;
@@ -49,30 +50,28 @@ fn judge_inputs(n: u8, marks: u32, inputs: &[u8]) -> Verdict
 {
     if inputs.len() == n as usize {
         let count = count_foreign(marks, inputs);
-        return Verdict::refused_if(0 < count, Cause::Value);
+        return cause::refused_if(0 < count, Cause::Value);
     }
-    Verdict::Accepted
+    Ok(())
 }
 
 // Cause 8: the lengths of the inputs, of the table and of the outcomes.
 fn judge_lengths(line: Line, inputs_len: usize, table_len: usize, outcomes_len: usize) -> Verdict
     ensures { result ≡ (exact_length line.n inputs_len or_else exact_length (exchange_length line.n) table_len or_else exact_length (outcomes_length line.n) outcomes_len) }
 {
-    let a = header::exact_length(line.n as usize, inputs_len);
-    let b = header::exact_length(line.exchange_len(), table_len);
-    let c = header::exact_length(line.outcomes_len(), outcomes_len);
-    a.or_else(b.or_else(c))
+    header::exact_length(line.n as usize, inputs_len)?;
+    header::exact_length(line.exchange_len(), table_len)?;
+    header::exact_length(line.outcomes_len(), outcomes_len)
 }
 
 // Causes 2, 3, 5, 6 and 8, the lowest first.
 fn judge(line: Line, marks: u32, inputs: &[u8], table_len: usize, outcomes_len: usize) -> Verdict
     ensures { result ≡ exchange_verdict line.n line.t line.upper marks inputs.now table_len outcomes_len }
 {
-    let a = header::line_verdict(line);
-    let b = judge_inputs(line.n, marks, inputs);
-    let c = header::marks_within(line.n, marks);
-    let d = judge_lengths(line, inputs.len(), table_len, outcomes_len);
-    a.or_else(b.or_else(c.or_else(d)))
+    header::line_verdict(line)?;
+    judge_inputs(line.n, marks, inputs)?;
+    header::marks_within(line.n, marks)?;
+    judge_lengths(line, inputs.len(), table_len, outcomes_len)
 }
 
 // The first bytes of the inputs, of at most 32.
@@ -126,9 +125,7 @@ fn write_outcomes(line: Line, marks: u32, inputs: &[u8], table: &[u8], outcomes:
 pub fn exchange(line: Line, marks: u32, inputs: &[u8], table: &[u8], outcomes: &mut [u8]) -> Verdict
     ensures { Exchanged line.n line.t line.upper marks inputs.now table.now outcomes.old outcomes.new result }
 {
-    let verdict = judge(line, marks, inputs, table.len(), outcomes.len());
-    if let Verdict::Accepted = verdict {
-        write_outcomes(line, marks, inputs, table, outcomes);
-    }
-    verdict
+    judge(line, marks, inputs, table.len(), outcomes.len())?;
+    write_outcomes(line, marks, inputs, table, outcomes);
+    Ok(())
 }

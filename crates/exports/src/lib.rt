@@ -4,34 +4,19 @@
 #![tactic(auto)]
 
 ghost use Rattle.std.specs.Prelude.{◌≡◌};
-ghost use Rattle.reader.specs.Reading.{reading_number};
 ghost use Rattle.recipe.specs.Promise.{number_run_of};
 ghost use Rattle.checker.specs.Promise.{logged};
 ghost use Rattle.exports.specs.Numbers.{ReadNumber, ReadBitNumber, NeedsWord, WritesWord, GeneratesNumber, RehearsedNumber, ExchangedNumber, ChecksWord};
 
-use checker::Checked;
 use line::Line;
-use reader::Reading;
 use refusal::cause;
-use writer::{Need, Writing};
-
-// The number of what a reader answers.
-fn number_of(reading: Reading) -> u8
-    ensures { result ≡ reading_number reading }
-{
-    match reading {
-        Reading::Accepted(_) => 0,
-        Reading::Refused(c) => c.number(),
-    }
-}
 
 // Reads a run sheet into the run tables of all bits.
 #[unsafe(no_mangle)]
 pub extern "C" fn vembopu_read(sheet: &[u8], table: &mut [u8]) -> u8
     ensures { ReadNumber sheet.now table.old table.new result }
 {
-    let reading = reader::read(sheet, table);
-    number_of(reading)
+    cause::code(reader::read(sheet, table))
 }
 
 // Reads one bit's run table of a run sheet.
@@ -39,8 +24,7 @@ pub extern "C" fn vembopu_read(sheet: &[u8], table: &mut [u8]) -> u8
 pub extern "C" fn vembopu_read_bit(sheet: &[u8], bit: u8, table: &mut [u8]) -> u8
     ensures { ReadBitNumber sheet.now bit table.old table.new result }
 {
-    let reading = reader::read_bit(sheet, bit, table);
-    number_of(reading)
+    cause::code(reader::read_bit(sheet, bit, table))
 }
 
 // How many bytes the sheet of a header and its run tables needs.
@@ -48,10 +32,9 @@ pub extern "C" fn vembopu_read_bit(sheet: &[u8], bit: u8, table: &mut [u8]) -> u
 pub extern "C" fn vembopu_sheet_len(header: &[u8], table: &[u8]) -> u64
     ensures { NeedsWord header.now table.now result }
 {
-    let need = writer::needed(header, table);
-    match need {
-        Need::Bytes(len) => cause::answer(0, len as u64),
-        Need::Refused(c) => cause::answer(c.number(), 0),
+    match writer::needed(header, table) {
+        Ok(len) => cause::answer(0, len as u64),
+        Err(cause) => cause::answer(cause.number(), 0),
     }
 }
 
@@ -60,10 +43,9 @@ pub extern "C" fn vembopu_sheet_len(header: &[u8], table: &[u8]) -> u64
 pub extern "C" fn vembopu_write(header: &[u8], table: &[u8], sheet: &mut [u8]) -> u64
     ensures { WritesWord header.now table.now sheet.old sheet.new result }
 {
-    let writing = writer::write(header, table, sheet);
-    match writing {
-        Writing::Written(k) => cause::answer(0, k as u64),
-        Writing::Refused(c) => cause::answer(c.number(), 0),
+    match writer::write(header, table, sheet) {
+        Ok(records) => cause::answer(0, records as u64),
+        Err(cause) => cause::answer(cause.number(), 0),
     }
 }
 
@@ -72,8 +54,7 @@ pub extern "C" fn vembopu_write(header: &[u8], table: &[u8], sheet: &mut [u8]) -
 pub extern "C" fn vembopu_generate(header: &[u8], seed: u32, table: &mut [u8]) -> u8
     ensures { GeneratesNumber header.now seed table.old table.new result }
 {
-    let verdict = generator::generate(header, seed, table);
-    verdict.code()
+    cause::code(generator::generate(header, seed, table))
 }
 
 // Rehearses a recipe number of w bits.
@@ -102,7 +83,7 @@ pub extern "C" fn vembopu_rehearse(
         log,
         outcomes,
     );
-    verdict.code()
+    cause::code(verdict)
 }
 
 // The graded exchange, had alone.
@@ -119,7 +100,7 @@ pub extern "C" fn vembopu_exchange(
     ensures { ExchangedNumber n t upper marks inputs.now table.now outcomes.old outcomes.new result }
 {
     let verdict = exchange::exchange(Line { n, t, upper }, marks, inputs, table, outcomes);
-    verdict.code()
+    cause::code(verdict)
 }
 
 // Which stations broke the rules, by a log and outcomes.
@@ -134,9 +115,8 @@ pub extern "C" fn vembopu_check(
 ) -> u64
     ensures { ChecksWord (logged n t upper sender log.now outcomes.now) result }
 {
-    let checked = checker::check(Line { n, t, upper }, sender, log, outcomes);
-    match checked {
-        Checked::Broke(marks) => cause::answer(0, marks as u64),
-        Checked::Refused(c) => cause::answer(c.number(), 0),
+    match checker::check(Line { n, t, upper }, sender, log, outcomes) {
+        Ok(marks) => cause::answer(0, marks as u64),
+        Err(cause) => cause::answer(cause.number(), 0),
     }
 }

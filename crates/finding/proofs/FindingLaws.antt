@@ -1,5 +1,8 @@
 -- Laws of the line: a number that is there or not, one station more, and the line's length. Assumes nothing.
 use Prim.Native.Nat.{ℕ, zero, suc, ◌+◌, ◌-◌, ◌*◌, ◌≤◌, ◌<◌, min}
+use Rattle.refusal.specs.declared.cause.Cause.{Cause}
+use Rattle.std.specs.declared.result.Result.{Result}
+use Rattle.std.specs.declared.result.Result.TheVariants.{Ok, Err}
 use mathlib.Core.Path.{◌≡◌, refl}
 use mathlib.Core.Bool.{Bool, true, false}
 use mathlib.Core.List.{List, [], ◌∷◌}
@@ -12,8 +15,6 @@ use Rattle.std.specs.Prelude.{if◌then◌else◌}
 use Rattle.line.specs.Marks.{marked}
 use Rattle.line.proofs.CountLaws.{le_or_lt}
 use Rattle.refusal.specs.Cause.{number}
-use Rattle.checker.specs.declared.Checked.{Checked}
-use Rattle.checker.specs.declared.Checked.TheVariants.{Broke, Refused}
 use Rattle.text.specs.Decimal.{space, decimal, numeral}
 use Rattle.text.specs.Laid.{Puts}
 use Rattle.text.proofs.DecimalLaws.{one_digit, two_digits, decimal_numeral}
@@ -63,7 +64,7 @@ numbers_short marks (suc m) h =
     go (inl l) ih = omega (arith, number_short marks m 2 h (two_digits (m + 1) (omega arith)))
     go (inr l) ih = omega (arith, number_short marks m 1 h (le_of_eq (one_digit (m + 1) (omega arith))))
 
-pub finding_short : (answer : Checked) → length (finding answer) ≤ 93
+pub finding_short : (answer : Result ℕ Cause) → length (finding answer) ≤ 93
 unfolding broke_line
-finding_short (Broke marks) = simp length-append (omega (arith, numbers_short marks 32 (omega arith)))
-finding_short (Refused c) = omega (arith, refusal_short (number c))
+finding_short (Ok marks) = simp length-append (omega (arith, numbers_short marks 32 (omega arith)))
+finding_short (Err c) = omega (arith, refusal_short (number c))

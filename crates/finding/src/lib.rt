@@ -6,8 +6,8 @@ ghost use Rattle.std.specs.Prelude.{◌<◌};
 ghost use Rattle.text.specs.Laid.{Puts};
 ghost use Rattle.finding.specs.Finding.{number_if, numbers, broke_line, finding};
 
-use checker::Checked;
 use line::marks;
+use refusal::cause::Cause;
 
 // The number of the station counted i from 0 after a space, if it is marked.
 fn number_if(out: &mut [u8], at: usize, marks: u32, i: u8) -> usize
@@ -43,11 +43,11 @@ fn of_set(out: &mut [u8], marks: u32) -> usize
 }
 
 // The line of an answer.
-pub fn of_answer(out: &mut [u8], answer: Checked) -> usize
+pub fn of_answer(out: &mut [u8], answer: Result<u32, Cause>) -> usize
     ensures { Puts out.old out.new 0 (finding answer) result }
 {
     match answer {
-        Checked::Broke(marks) => of_set(out, marks),
-        Checked::Refused(c) => listing_lines::of_refusal(out, c.number()),
+        Ok(marks) => of_set(out, marks),
+        Err(cause) => listing_lines::of_refusal(out, cause.number()),
     }
 }

@@ -1,15 +1,15 @@
 -- Laws of what the calls promise: what no cause refuses, and the promises by what was done. Assumes nothing.
 use Prim.Native.Nat.{ℕ, ◌%◌, ◌≤◌}
+use Rattle.std.specs.declared.result.Result.TheVariants.{Err}
 use mathlib.Core.Path.{◌≡◌, sym, ap, ◌∙◌}
 use mathlib.Core.Bool.{false, true}
 use mathlib.Core.List.{List}
 use native.Mathlib.Nat.{mul-mod_left}
 use lib.ListN.{length}
 use Rattle.line.specs.Width.{tables_length}
-use Rattle.refusal.specs.Cause.{◌or_else◌}
+use Rattle.refusal.specs.Cause.{◌or_else◌, no_cause}
 use Rattle.refusal.specs.declared.cause.Cause.{Cause}
-use Rattle.refusal.specs.declared.cause.Verdict.{Verdict}
-use Rattle.refusal.specs.declared.cause.Verdict.TheVariants.{Accepted, Refused}
+use Rattle.refusal.specs.Cause.{Verdict}
 use Rattle.refusal.proofs.VerdictLaws.{judged, both_accepted}
 use Rattle.header.specs.Header.{exact_length}
 use Rattle.header.proofs.HeaderLaws.{number_sound, length_exact}
@@ -37,8 +37,8 @@ module _ (n marks state : ℕ) (table₀ : List ℕ) where
 
 -- ---- what no cause refuses
 
-module _ (h : List ℕ) (seed size : ℕ) (e : generate_verdict h seed size ≡ Accepted) where
-  after_length : verdict_to_6 h or_else seed_some seed or_else exact_length (tables_wanted h) size ≡ Accepted
+module _ (h : List ℕ) (seed size : ℕ) (e : generate_verdict h seed size ≡ no_cause) where
+  after_length : verdict_to_6 h or_else seed_some seed or_else exact_length (tables_wanted h) size ≡ no_cause
   unfolding generate_verdict
   after_length = (both_accepted (header_length h) _ e).1
 
@@ -56,7 +56,7 @@ tables_rows n t w some = rows_whole n (tables_length n t w) some (ap (λ (k : �
 -- ---- what `generate` promises
 
 module _ (h : List ℕ) (seed : ℕ) (table₀ : List ℕ) {answer : Verdict} (v : answer ≡ generate_verdict h seed (length table₀)) where
-  pub generates_accepted : (table₁ : List ℕ) (r : ℕ) → answer ≡ Accepted → Fills (header h).line.n (header h).marks seed table₀ table₁ r
+  pub generates_accepted : (table₁ : List ℕ) (r : ℕ) → answer ≡ no_cause → Fills (header h).line.n (header h).marks seed table₀ table₁ r
       → Generates h seed table₀ table₁ answer
   unfolding generated
   generates_accepted table₁ r a f =
@@ -65,5 +65,5 @@ module _ (h : List ℕ) (seed : ℕ) (table₀ : List ℕ) {answer : Verdict} (v
       let whole : whole_rows (header h).line.n (length table₀) ≡ true = rw size (tables_rows _ _ _ (taken_stations h seed (length table₀) e)) in
       record { judged = judged v; table_is = rw a (rw (whole, size) at f.table_is) }
 
-  pub generates_refused : (c : Cause) → answer ≡ Refused c → Generates h seed table₀ table₀ answer
+  pub generates_refused : (c : Cause) → answer ≡ Err c → Generates h seed table₀ table₀ answer
   generates_refused c q = record { judged = judged v; table_is = rw q }

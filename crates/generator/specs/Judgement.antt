@@ -2,7 +2,7 @@
 use Rattle.std.specs.Prelude.{ℕ, List, eqb}
 use Rattle.refusal.specs.Cause.{refused_if, ◌or_else◌}
 use Rattle.refusal.specs.declared.cause.Cause.TheVariants.{Seed}
-use Rattle.refusal.specs.declared.cause.Verdict.{Verdict}
+use Rattle.refusal.specs.Cause.{Verdict}
 use Rattle.header.specs.Header.{exact_length}
 use Rattle.layout.specs.Layout.{tables_wanted}
 use Rattle.judgement.specs.Judgement.{header_length, verdict_to_6}

@@ -1,7 +1,7 @@
 -- What the generator's calls promise, for all arguments.
 use Rattle.std.specs.Prelude.{ℕ, ◌%◌, ◌≡◌, Bool, ◌&&◌, List, ltb, eqb, length, if◌then◌else◌}
 use Rattle.refusal.specs.Cause.{Judged, written}
-use Rattle.refusal.specs.declared.cause.Verdict.{Verdict}
+use Rattle.refusal.specs.Cause.{Verdict}
 use Rattle.layout.specs.Layout.{header}
 use Rattle.xorshift.specs.State.{state_after}
 use Rattle.generator.specs.Tables.{steps_before, noise, generated}

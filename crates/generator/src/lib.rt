@@ -5,6 +5,7 @@ ghost use Rattle.std.specs.Prelude.{◌≡◌};
 ghost use Rattle.generator.specs.Judgement.{generate_verdict};
 ghost use Rattle.generator.specs.Promise.{Fills, Generates};
 
+use refusal::cause;
 use refusal::cause::{Cause, Verdict};
 
 mod rows;
@@ -27,23 +28,18 @@ pub fn fill(n: u8, marks: u32, state: u32, table: &mut [u8]) -> u32
 fn judge(header: &[u8], seed: u32, table_len: usize) -> Verdict
     ensures { result ≡ generate_verdict header.now seed table_len }
 {
-    if header.len() != 12 {
-        return Verdict::Refused(Cause::SheetForm);
-    }
-    let a = judgement::to_6(header);
-    let b = Verdict::refused_if(seed == 0, Cause::Seed);
-    let c = header::exact_length(layout::tables_len(header), table_len);
-    a.or_else(b.or_else(c))
+    cause::refused_if(header.len() != 12, Cause::SheetForm)?;
+    judgement::to_6(header)?;
+    cause::refused_if(seed == 0, Cause::Seed)?;
+    header::exact_length(layout::tables_len(header), table_len)
 }
 
 // Generates the run tables of all bits from a header and a seed.
 pub fn generate(header: &[u8], seed: u32, table: &mut [u8]) -> Verdict
     ensures { Generates header.now seed table.old table.new result }
 {
-    let verdict = judge(header, seed, table.len());
-    if let Verdict::Accepted = verdict {
-        let h = layout::header_of(header);
-        fill(h.line.n, h.marks, seed, table);
-    }
-    verdict
+    judge(header, seed, table.len())?;
+    let h = layout::header_of(header);
+    fill(h.line.n, h.marks, seed, table);
+    Ok(())
 }

@@ -1,5 +1,6 @@
 -- Laws of the judgement: nothing is refused exactly if every number is as document 01 wants it. Assumes nothing.
 use Prim.Native.Nat.{ℕ, ◌+◌, ◌*◌, ◌^◌, ◌≤◌, ◌<◌}
+use Rattle.refusal.specs.Cause.{no_cause}
 use mathlib.Core.Path.{◌≡◌, refl}
 use mathlib.Core.Bool.{Bool, true, false}
 use native.Mathlib.Omega.{arith}
@@ -9,7 +10,6 @@ use Rattle.line.specs.Line.{Fits, most_stations}
 use Rattle.line.specs.Marks.{marked, mark_beyond}
 use Rattle.line.specs.Width.{most_bits, bits, bit_of}
 use Rattle.header.specs.Header.{outside, exceeded, station_count, thresholds, station_number, bit, marks_within, exact_length, line_verdict, header_verdict, width, number_within, number_verdict, Sound, SoundNumber}
-use Rattle.refusal.specs.declared.cause.Verdict.TheVariants.{Accepted}
 use Rattle.line.proofs.MarksLaws.{beyond_none, beyond_some}
 use Rattle.line.proofs.WidthLaws.{bit_small}
 use Rattle.refusal.proofs.VerdictLaws.{refused_false, accepted_false, both_accepted, neither}
@@ -36,7 +36,7 @@ unfolding exceeded
 fitting_not n t T f = rw (le-ltb T t f.order, lt-leb n (t + 2 * T) f.room)
 
 -- a length that is not refused is the one wanted
-pub length_exact : (wanted found : ℕ) → exact_length wanted found ≡ Accepted → found ≡ wanted
+pub length_exact : (wanted found : ℕ) → exact_length wanted found ≡ no_cause → found ≡ wanted
 unfolding exact_length
 length_exact wanted found e = eqb-true found wanted (not-false (eqb found wanted) (accepted_false _ _ e))
 
@@ -49,47 +49,47 @@ within_not n marks h = go (mark_beyond n marks) refl
 
 -- ---- each verdict, where its number is as it should be
 
-count_accepts : (n : ℕ) → 1 ≤ n → n ≤ most_stations → station_count n ≡ Accepted
+count_accepts : (n : ℕ) → 1 ≤ n → n ≤ most_stations → station_count n ≡ no_cause
 unfolding station_count
 count_accepts n a b = refused_false _ (inside_not 1 most_stations n a b)
 
-thresholds_accept : (n t T : ℕ) → Fits n t T → thresholds n t T ≡ Accepted
+thresholds_accept : (n t T : ℕ) → Fits n t T → thresholds n t T ≡ no_cause
 unfolding thresholds
 thresholds_accept n t T f = refused_false _ (fitting_not n t T f)
 
-pub number_accepts : (n i : ℕ) → 1 ≤ i → i ≤ n → station_number n i ≡ Accepted
+pub number_accepts : (n i : ℕ) → 1 ≤ i → i ≤ n → station_number n i ≡ no_cause
 unfolding station_number
 number_accepts n i a b = refused_false _ (inside_not 1 n i a b)
 
-pub bit_accepts : (v : ℕ) → v ≤ 1 → bit v ≡ Accepted
+pub bit_accepts : (v : ℕ) → v ≤ 1 → bit v ≡ no_cause
 unfolding bit
 bit_accepts v h = refused_false _ (le-ltb 1 v h)
 
-width_accepts : (w : ℕ) → w ≤ most_bits → width w ≡ Accepted
+width_accepts : (w : ℕ) → w ≤ most_bits → width w ≡ no_cause
 unfolding width
 width_accepts w h = refused_false _ (le-ltb most_bits w h)
 
-small_accepts : (w number : ℕ) → number < 2 ^ bits w → number_within w number ≡ Accepted
+small_accepts : (w number : ℕ) → number < 2 ^ bits w → number_within w number ≡ no_cause
 unfolding number_within
 small_accepts w number h = refused_false _ (lt-leb (2 ^ bits w) number h)
 
-marks_accept : (n marks : ℕ) → ((i : ℕ) → n ≤ i → marked marks i ≡ false) → marks_within n marks ≡ Accepted
+marks_accept : (n marks : ℕ) → ((i : ℕ) → n ≤ i → marked marks i ≡ false) → marks_within n marks ≡ no_cause
 unfolding marks_within
 marks_accept n marks h = refused_false _ (within_not n marks h)
 
-pub length_accepts : (wanted found : ℕ) → found ≡ wanted → exact_length wanted found ≡ Accepted
+pub length_accepts : (wanted found : ℕ) → found ≡ wanted → exact_length wanted found ≡ no_cause
 unfolding exact_length
 length_accepts wanted found e = refused_false _ (rw (eq-eqb found wanted e))
 
 -- ---- causes 2 and 3
 
-pub line_sound : (n t T : ℕ) → line_verdict n t T ≡ Accepted → (1 ≤ n) × (n ≤ most_stations) × Fits n t T
+pub line_sound : (n t T : ℕ) → line_verdict n t T ≡ no_cause → (1 ≤ n) × (n ≤ most_stations) × Fits n t T
 unfolding line_verdict station_count thresholds
 line_sound n t T e =
     let (a, b) = both_accepted _ _ e in
     let (some, most) = inside 1 most_stations n (accepted_false _ _ a) in (some, most, fitting n t T (accepted_false _ _ b))
 
-pub line_accepts : (n t T : ℕ) → n ≤ most_stations → Fits n t T → line_verdict n t T ≡ Accepted
+pub line_accepts : (n t T : ℕ) → n ≤ most_stations → Fits n t T → line_verdict n t T ≡ no_cause
 unfolding line_verdict
 line_accepts n t T h fits =
     rw (count_accepts n (omega (arith, fits)) h, thresholds_accept n t T fits)
@@ -98,7 +98,7 @@ line_accepts n t T h fits =
 
 module _ (n t T sender value marks : ℕ) where
   -- nothing is refused: every number is as it should be
-  pub header_sound : header_verdict n t T sender value marks ≡ Accepted → Sound n t T sender value marks
+  pub header_sound : header_verdict n t T sender value marks ≡ no_cause → Sound n t T sender value marks
   unfolding header_verdict station_number bit marks_within
   header_sound e =
       let (a, e₂) = both_accepted _ _ e in
@@ -117,7 +117,7 @@ module _ (n t T sender value marks : ℕ) where
       }
 
   -- every number is as it should be: nothing is refused
-  pub header_accepts : Sound n t T sender value marks → header_verdict n t T sender value marks ≡ Accepted
+  pub header_accepts : Sound n t T sender value marks → header_verdict n t T sender value marks ≡ no_cause
   unfolding header_verdict
   header_accepts s =
       rw (line_accepts n t T s.most s.fits, number_accepts n sender s.sender_low s.sender_high, bit_accepts value s.value_bit, marks_accept n marks s.within)
@@ -125,7 +125,7 @@ module _ (n t T sender value marks : ℕ) where
 -- ---- of a recipe number
 
 module _ (n t T sender number w marks : ℕ) where
-  pub number_sound : number_verdict n t T sender number w marks ≡ Accepted → SoundNumber n t T sender number w marks
+  pub number_sound : number_verdict n t T sender number w marks ≡ no_cause → SoundNumber n t T sender number w marks
   unfolding number_verdict width station_number number_within marks_within
   number_sound e =
       let (u, e₁) = both_accepted _ _ e in
@@ -145,7 +145,7 @@ module _ (n t T sender number w marks : ℕ) where
         within = λ i h. beyond_none n marks i (accepted_false _ _ m) h;
       }
 
-  pub number_verdict_accepts : SoundNumber n t T sender number w marks → number_verdict n t T sender number w marks ≡ Accepted
+  pub number_verdict_accepts : SoundNumber n t T sender number w marks → number_verdict n t T sender number w marks ≡ no_cause
   unfolding number_verdict
   number_verdict_accepts s =
       rw (width_accepts w s.narrow, line_accepts n t T s.most s.fits, number_accepts n sender s.sender_low s.sender_high, small_accepts w number s.small, marks_accept n marks s.within)

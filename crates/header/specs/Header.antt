@@ -6,7 +6,7 @@ use Rattle.line.specs.Width.{most_bits, bits}
 use Rattle.line.specs.Marks.{marked, mark_beyond}
 use Rattle.refusal.specs.Cause.{refused_if, ◌or_else◌}
 use Rattle.refusal.specs.declared.cause.Cause.TheVariants.{StationCount, Thresholds, StationNumber, Value, MarkBeyond, Length, Width}
-use Rattle.refusal.specs.declared.cause.Verdict.{Verdict}
+use Rattle.refusal.specs.Cause.{Verdict}
 
 -- below low or above high
 unfoldable pub outside : ℕ → ℕ → ℕ → Bool

@@ -8,6 +8,7 @@ ghost use Rattle.refusal.specs.Cause.{Judged};
 ghost use Rattle.header.specs.Header.{outside, exceeded, station_count, thresholds, station_number, bit, marks_within, exact_length, line_verdict, header_verdict, width, number_within, number_verdict};
 
 use line::{Line, width};
+use refusal::cause;
 use refusal::cause::{Cause, Verdict};
 
 // Below low or above high.
@@ -43,69 +44,69 @@ fn mark_beyond(n: u8, marks: u32) -> bool
 fn station_count(n: u8) -> Verdict
     ensures { result ≡ station_count n }
 {
-    Verdict::refused_if(outside(1, Line::STATIONS, n), Cause::StationCount)
+    cause::refused_if(outside(1, Line::STATIONS, n), Cause::StationCount)
 }
 
 // Cause 3.
 fn thresholds(n: u8, t: u8, upper: u8) -> Verdict
     ensures { result ≡ thresholds n t upper }
 {
-    Verdict::refused_if(exceeded(n, t, upper), Cause::Thresholds)
+    cause::refused_if(exceeded(n, t, upper), Cause::Thresholds)
 }
 
 // Cause 4, of the sender or the own station.
 pub fn station_number(n: u8, i: u8) -> Verdict
     ensures { Judged (station_number n i) result }
 {
-    Verdict::refused_if(outside(1, n, i), Cause::StationNumber)
+    cause::refused_if(outside(1, n, i), Cause::StationNumber)
 }
 
 // Cause 5, of one byte.
 pub fn bit(v: u8) -> Verdict
     ensures { Judged (bit v) result }
 {
-    Verdict::refused_if(1 < v, Cause::Value)
+    cause::refused_if(1 < v, Cause::Value)
 }
 
 // Cause 6.
 pub fn marks_within(n: u8, marks: u32) -> Verdict
     ensures { Judged (marks_within n marks) result }
 {
-    Verdict::refused_if(mark_beyond(n, marks), Cause::MarkBeyond)
+    cause::refused_if(mark_beyond(n, marks), Cause::MarkBeyond)
 }
 
 // Cause 8, of one length.
 pub fn exact_length(wanted: usize, found: usize) -> Verdict
     ensures { Judged (exact_length wanted found) result }
 {
-    Verdict::refused_if(found != wanted, Cause::Length)
+    cause::refused_if(found != wanted, Cause::Length)
 }
 
 // Causes 2 and 3.
+#[tactic(auto, using(refusal::proofs::VerdictLaws::judged), unfolding(crate::specs::Header::line_verdict))]
 pub fn line_verdict(line: Line) -> Verdict
     ensures { Judged (line_verdict line.n line.t line.upper) result }
 {
-    let a = station_count(line.n);
-    let b = thresholds(line.n, line.t, line.upper);
-    a.or_else(b)
+    station_count(line.n)?;
+    thresholds(line.n, line.t, line.upper)
 }
 
 // Causes 2 to 6.
+#[tactic(auto, using(refusal::proofs::VerdictLaws::judged), unfolding(crate::specs::Header::header_verdict))]
 pub fn header_verdict(line: Line, sender: u8, value: u8, marks: u32) -> Verdict
     ensures { Judged (header_verdict line.n line.t line.upper sender value marks) result }
 {
-    let a = line_verdict(line);
-    let b = station_number(line.n, sender);
-    let c = bit(value);
-    let d = marks_within(line.n, marks);
-    a.or_else(b.or_else(c.or_else(d)))
+    line_verdict(line)?;
+    station_number(line.n, sender)?;
+    bit(value)?;
+    marks_within(line.n, marks)
 }
 
 // Cause 15.
 fn width(w: u8) -> Verdict
     ensures { result ≡ width w }
 {
-    Verdict::refused_if(Line::BITS < w, Cause::Width)
+    cause::refused_if(Line::BITS < w, Cause::Width)
 }
 
 // 2 to the power w or above.
@@ -123,17 +124,17 @@ fn too_large(w: u8, number: u8) -> bool
 fn number_within(w: u8, number: u8) -> Verdict
     ensures { result ≡ number_within w number }
 {
-    Verdict::refused_if(too_large(w, number), Cause::Value)
+    cause::refused_if(too_large(w, number), Cause::Value)
 }
 
 // Cause 15, then 2 to 6, of a recipe number of w bits.
+#[tactic(auto, using(refusal::proofs::VerdictLaws::judged), unfolding(crate::specs::Header::number_verdict))]
 pub fn number_verdict(line: Line, sender: u8, number: u8, w: u8, marks: u32) -> Verdict
     ensures { Judged (number_verdict line.n line.t line.upper sender number w marks) result }
 {
-    let a = width(w);
-    let b = line_verdict(line);
-    let c = station_number(line.n, sender);
-    let d = number_within(w, number);
-    let e = marks_within(line.n, marks);
-    a.or_else(b.or_else(c.or_else(d.or_else(e))))
+    width(w)?;
+    line_verdict(line)?;
+    station_number(line.n, sender)?;
+    number_within(w, number)?;
+    marks_within(line.n, marks)
 }

@@ -1,5 +1,6 @@
 -- Laws of the sheet's form: cause 1 lets through exactly the sheets of document 01's form. Assumes nothing.
 use Prim.Native.Nat.{ℕ, ◌+◌, ◌*◌, ◌<◌}
+use Rattle.refusal.specs.Cause.{no_cause}
 use mathlib.Core.Path.{◌≡◌}
 use mathlib.Core.Bool.{true, not, or-true}
 use mathlib.Core.List.{List}
@@ -7,7 +8,6 @@ use native.Mathlib.Omega.{arith}
 use lib.Dec.{ltb, eqb}
 use lib.ListN.{length}
 use borrow.Author.Tests.{eqb-true, eq-eqb, ltb-false, lt-ltb, le-ltb, not-false}
-use Rattle.refusal.specs.declared.cause.Verdict.TheVariants.{Accepted}
 use Rattle.refusal.proofs.VerdictLaws.{refused_false, accepted_false, neither}
 use Rattle.layout.specs.Layout.{most_records, records}
 use Rattle.judgement.specs.Judgement.{ill_formed, sheet_form}
@@ -20,7 +20,7 @@ module _ (s : List ℕ) where
   records_are k e = omega arith
 
   -- a well_formed sheet is accepted
-  pub form_accepts : (k : ℕ) → WellFormed s k → (sheet_form s ≡ Accepted) × (records s ≡ k)
+  pub form_accepts : (k : ℕ) → WellFormed s k → (sheet_form s ≡ no_cause) × (records s ≡ k)
   unfolding sheet_form ill_formed
   form_accepts k w =
       let r = records_are k w.length_is in
@@ -28,7 +28,7 @@ module _ (s : List ℕ) where
       (refused_false _ (rw (r, a, le-ltb most_records k w.most)), r)
 
   -- and an accepted one is well formed
-  pub form_sound : sheet_form s ≡ Accepted → WellFormed s (records s)
+  pub form_sound : sheet_form s ≡ no_cause → WellFormed s (records s)
   unfolding sheet_form ill_formed
   form_sound e =
       let whole = eqb (length s) (12 + 8 * records s) in

@@ -11,10 +11,9 @@ use borrow.Author.Tests.{leb-false, le-leb, lt-leb, eqb-true, eq-eqb, ne_eqb, no
 use Rattle.line.proofs.CountLaws.{both_true}
 use Rattle.line.specs.Line.{rounds}
 use Rattle.line.specs.Width.{bits}
-use Rattle.refusal.specs.Cause.{◌or_else◌}
+use Rattle.refusal.specs.Cause.{◌or_else◌, no_cause}
 use Rattle.header.specs.Header.{outside}
-use Rattle.refusal.specs.declared.cause.Verdict.{Verdict}
-use Rattle.refusal.specs.declared.cause.Verdict.TheVariants.{Accepted}
+use Rattle.refusal.specs.Cause.{Verdict}
 use Rattle.refusal.proofs.VerdictLaws.{neither, accepted_false, both_accepted}
 use Rattle.header.proofs.HeaderLaws.{inside, inside_not}
 use Rattle.layout.specs.Layout.{header, round, from, to, bit}
@@ -95,7 +94,7 @@ module _ (n last bits : ℕ) (r : numbers.Record) where
   unfolding out_of_place
   numbers_in_range e = in_range n last bits r.round r.from r.to r.bit r.rest e
 
-  pub accepted_in_range : (marks : ℕ) (v : Verdict) → v ≡ numbers_verdict n last bits marks r → v ≡ Accepted → InNumbers
+  pub accepted_in_range : (marks : ℕ) (v : Verdict) → v ≡ numbers_verdict n last bits marks r → v ≡ no_cause → InNumbers
   unfolding numbers_verdict
   accepted_in_range marks v is e = numbers_in_range (accepted_false _ _ (both_accepted _ _ (sym is ∙ e)).0)
 

@@ -1,14 +1,14 @@
 -- Which cause a sheet is refused by (document 01, "Refused causes"; document 02, request 5): each cause a test of its own, in the order that the document gives.
 use Rattle.std.specs.Prelude.{ℕ, zero, suc, ◌+◌, ◌*◌, Bool, not, ◌&&◌, ◌||◌, List, leb, ltb, eqb, length}
+use Rattle.std.specs.declared.result.Result.TheVariants.{Err}
 use Rattle.line.specs.Count.{count}
 use Rattle.line.specs.Line.{from_0, rounds}
 use Rattle.line.specs.Marks.{marked}
 use Rattle.line.specs.Width.{bits}
-use Rattle.refusal.specs.Cause.{refused_if, ◌or_else◌}
+use Rattle.refusal.specs.Cause.{refused_if, ◌or_else◌, no_cause}
 use Rattle.header.specs.Header.{outside, number_verdict, exact_length}
 use Rattle.refusal.specs.declared.cause.Cause.TheVariants.{SheetForm, ChainLeaves, ChainRepeats, RecordForm, UnmarkedSender, Duplicate}
-use Rattle.refusal.specs.declared.cause.Verdict.{Verdict}
-use Rattle.refusal.specs.declared.cause.Verdict.TheVariants.{Accepted, Refused}
+use Rattle.refusal.specs.Cause.{Verdict}
 use Rattle.layout.specs.Layout.{header, table_wanted, tables_wanted, most_records, records, round, from, to, bit, rest}
 use Rattle.layout.specs.Chain.{reached, Fate, leaves, again, ends}
 
@@ -85,15 +85,15 @@ record_verdict s m =
 
 -- "Then the records are taken in chain order, [..] and the first hit is given.": of the first m records of the chain
 unfoldable pub records_verdict : List ℕ → ℕ → Verdict
-records_verdict s zero = Accepted
+records_verdict s zero = no_cause
 records_verdict s (suc m) = records_verdict s m or_else record_verdict s m
 
 -- ---- the whole order
 
 -- "Then the whole chain is walked for 9 and 10, of which only one can arise. Then the records"
 abbrev pub chain_verdict : (s : List ℕ) → Fate s → Verdict
-chain_verdict s (leaves l) = Refused ChainLeaves
-chain_verdict s (again a) = Refused ChainRepeats
+chain_verdict s (leaves l) = Err ChainLeaves
+chain_verdict s (again a) = Err ChainRepeats
 chain_verdict s (ends m e) = records_verdict s m
 
 -- a sheet, with a lent table for all bits, of this length

@@ -5,7 +5,7 @@ use Rattle.line.specs.Marks.{marked}
 use Rattle.refusal.specs.Cause.{refused_if, ◌or_else◌}
 use Rattle.header.specs.Header.{outside}
 use Rattle.refusal.specs.declared.cause.Cause.TheVariants.{RecordForm, UnmarkedSender}
-use Rattle.refusal.specs.declared.cause.Verdict.{Verdict}
+use Rattle.refusal.specs.Cause.{Verdict}
 use Rattle.layout.specs.declared.Record.{Record}
 
 -- "a record's round outside 1 to R, a station outside 1 to n", "a bit not below w", or its last byte not zero: in a line of n stations, `last` rounds and so

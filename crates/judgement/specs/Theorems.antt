@@ -1,6 +1,6 @@
 -- What is shown of the definitions. Each statement has a name here, and proofs/Theorems.antt has the law that proves it.
 use Rattle.std.specs.Prelude.{ℕ, ◌+◌, ◌*◌, ◌≤◌, ◌≡◌, List, length}
-use Rattle.refusal.specs.declared.cause.Verdict.TheVariants.{Accepted}
+use Rattle.refusal.specs.Cause.{no_cause}
 use Rattle.layout.specs.Layout.{most_records, records}
 use Rattle.judgement.specs.Judgement.{sheet_form}
 
@@ -12,7 +12,7 @@ pub record WellFormed (s : List ℕ) (k : ℕ) : Type 0 where
   pub most : k ≤ most_records
 
 abbrev pub FormAccepts : Type 0
-FormAccepts = (s : List ℕ) (k : ℕ) → WellFormed s k → (sheet_form s ≡ Accepted) × (records s ≡ k)
+FormAccepts = (s : List ℕ) (k : ℕ) → WellFormed s k → (sheet_form s ≡ no_cause) × (records s ≡ k)
 
 abbrev pub FormSound : Type 0
-FormSound = (s : List ℕ) → sheet_form s ≡ Accepted → WellFormed s (records s)
+FormSound = (s : List ℕ) → sheet_form s ≡ no_cause → WellFormed s (records s)

@@ -10,6 +10,7 @@ ghost use Rattle.judgement.specs.Numbers.{out_of_place, numbers_verdict};
 
 use layout::Record;
 use line::{Line, marks, width};
+use refusal::cause;
 use refusal::cause::{Cause, Verdict};
 
 // Cause 1.
@@ -27,9 +28,7 @@ fn ill_formed(sheet: &[u8]) -> bool
 pub fn to_6(sheet: &[u8]) -> Verdict
     ensures { Judged (verdict_to_6 sheet.now) result }
 {
-    if ill_formed(sheet) {
-        return Verdict::Refused(Cause::SheetForm);
-    }
+    cause::refused_if(ill_formed(sheet), Cause::SheetForm)?;
     let h = layout::header_of(sheet);
     header::number_verdict(h.line, h.sender, h.value, h.w, h.marks)
 }
@@ -38,9 +37,8 @@ pub fn to_6(sheet: &[u8]) -> Verdict
 pub fn to_8(sheet: &[u8], table_len: usize) -> Verdict
     ensures { Judged (verdict_to_8 sheet.now table_len) result }
 {
-    let a = to_6(sheet);
-    let b = header::exact_length(layout::tables_len(sheet), table_len);
-    a.or_else(b)
+    to_6(sheet)?;
+    header::exact_length(layout::tables_len(sheet), table_len)
 }
 
 // Cause 11, of the bit asked for.
@@ -48,17 +46,16 @@ fn bit_there(sheet: &[u8], b: u8) -> Verdict
     ensures { result ≡ bit_there sheet.now b }
 {
     let h = layout::header_of(sheet);
-    Verdict::refused_if(width::bits(h.w) <= b, Cause::RecordForm)
+    cause::refused_if(width::bits(h.w) <= b, Cause::RecordForm)
 }
 
 // Causes 1, 15 and 2 to 8, with a buffer for one table, then 11 of the bit asked for.
 pub fn bit_to_8(sheet: &[u8], b: u8, table_len: usize) -> Verdict
     ensures { Judged (bit_to_8 sheet.now b table_len) result }
 {
-    let a = to_6(sheet);
-    let l = header::exact_length(layout::table_len(sheet), table_len);
-    let c = bit_there(sheet, b);
-    a.or_else(l.or_else(c))
+    to_6(sheet)?;
+    header::exact_length(layout::table_len(sheet), table_len)?;
+    bit_there(sheet, b)
 }
 
 // Cause 11, of a record's numbers. `last` is R. A bit below `bits` and a zero byte after it are one comparison of two bytes.
@@ -89,8 +86,6 @@ fn unmarked(marks: u32, from: u8) -> bool
 pub fn numbers_verdict(n: u8, last: u8, bits: u8, marks: u32, record: Record) -> Verdict
     ensures { Judged (numbers_verdict n last bits marks «record») result }
 {
-    if out_of_place(n, last, bits, record) {
-        return Verdict::Refused(Cause::RecordForm);
-    }
-    Verdict::refused_if(unmarked(marks, record.from), Cause::UnmarkedSender)
+    cause::refused_if(out_of_place(n, last, bits, record), Cause::RecordForm)?;
+    cause::refused_if(unmarked(marks, record.from), Cause::UnmarkedSender)
 }

@@ -1,5 +1,9 @@
 -- Laws of a sheet that is rehearsed one bit after another in one table and one log. Assumes nothing.
 use Prim.Native.Nat.{ℕ, ◌+◌, ◌-◌, ◌≤◌, ◌<◌}
+use Rattle.refusal.specs.declared.cause.Cause.{Cause}
+use Rattle.std.specs.declared.result.Result.{Result}
+use Rattle.refusal.specs.Cause.{no_cause}
+use Rattle.std.specs.declared.result.Result.TheVariants.{Ok}
 use mathlib.Core.Path.{◌≡◌, refl, sym, ap, ◌∙◌}
 use mathlib.Core.List.{List}
 use native.Mathlib.Omega.{arith}
@@ -7,7 +11,6 @@ use lib.ListN.{length}
 use Rattle.line.specs.Line.{outcomes_length}
 use Rattle.line.specs.Width.{bits}
 use Rattle.line.proofs.WidthLaws.{bits_some, part_size}
-use Rattle.refusal.specs.declared.cause.Verdict.TheVariants.{Accepted}
 use Rattle.refusal.proofs.VerdictLaws.{both_accepted}
 use Rattle.number.specs.Numbers.{NumberRun, bit_run}
 use Rattle.recipe.proofs.RunLaws.{none_in_turn, one_more_in_turn}
@@ -15,8 +18,6 @@ use Rattle.layout.specs.declared.Header.{Header}
 use Rattle.layout.specs.Layout.{header, table_wanted, tables_wanted}
 use Rattle.layout.specs.Chain.{Fate}
 use Rattle.judgement.specs.Judgement.{verdict_to_8, bit_to_8, chain_verdict, sheet_verdict, bit_verdict}
-use Rattle.reader.specs.declared.Reading.{Reading}
-use Rattle.reader.specs.declared.Reading.TheVariants as reading
 use Rattle.reader.specs.Reading.{table_of, bit_table, ReadsBit}
 use Rattle.reader.specs.Loops.{SoundHeader}
 use Rattle.reader.proofs.TableLaws.{table_long}
@@ -32,8 +33,8 @@ use Rattle.listing.specs.Loops.{BitRehearsed, Begun, BitsRun}
 abbrev number_run : (s : List ℕ) → Fate s → NumberRun
 number_run s f = run (header s) (table_of s f)
 
-module _ (s : List ℕ) (f : Fate s) (v : verdict s f ≡ Accepted) where
-  judged : sheet_verdict s (tables_wanted s) f ≡ Accepted
+module _ (s : List ℕ) (f : Fate s) (v : verdict s f ≡ no_cause) where
+  judged : sheet_verdict s (tables_wanted s) f ≡ no_cause
   unfolding verdict
   judged = v
 
@@ -48,11 +49,11 @@ module _ (s : List ℕ) (f : Fate s) (v : verdict s f ≡ Accepted) where
   bit_long b h = part_size (table_wanted s) (table_of s f) b (bits (header s).w) h tables_long
 
   -- what one bit is read as, whatever shows the chain's fate
-  bit_read : (b : ℕ) → b < bits (header s).w → (table₀ table₁ : List ℕ) (answer : Reading) → length table₀ ≡ table_wanted s
+  bit_read : (b : ℕ) → b < bits (header s).w → (table₀ table₁ : List ℕ) (answer : Result Header Cause) → length table₀ ≡ table_wanted s
       → ReadsBit s b table₀ table₁ answer → table₁ ≡ bit_table s f b
   bit_read b h table₀ table₁ answer size r =
       let same = one_fate s r.fate f in
-      let a : bit_verdict s b (length table₀) r.fate ≡ Accepted = rw size (judged_either_way s r.fate b h ∙ same.0 (tables_wanted s) ∙ judged) in
+      let a : bit_verdict s b (length table₀) r.fate ≡ no_cause = rw size (judged_either_way s r.fate b h ∙ same.0 (tables_wanted s) ∙ judged) in
       r.table_is ∙ rw (a, same.1) refl
 
 -- ---- the bits, one after another
@@ -96,7 +97,7 @@ module _ (s : List ℕ) (h : Header) (table bytes results : List ℕ) where
       ap length P.table_is ∙ bit_long s P.fate P.accepted (b - 1) (omega (arith, m, bits_some (header s).w))
 
   -- a higher one is read in the place of the one before
-  pub next_read : (b : ℕ) (P : BitsRun s h b table bytes results) → b < bits h.w → (table₁ : List ℕ) (answer : Reading)
+  pub next_read : (b : ℕ) (P : BitsRun s h b table bytes results) → b < bits h.w → (table₁ : List ℕ) (answer : Result Header Cause)
       → ReadsBit s b table table₁ answer → table₁ ≡ bit_table s P.fate b
   next_read b P more table₁ answer r =
       let m : b < bits (header s).w = rw P.header_is at more in
@@ -104,8 +105,8 @@ module _ (s : List ℕ) (h : Header) (table bytes results : List ℕ) where
 
 -- ---- the reader's answer of the first bit
 
-module _ (s table₀ table₁ : List ℕ) {answer : Reading} (r : ReadsBit s 0 table₀ table₁ answer) (h : Header) (e : answer ≡ reading.Accepted h) where
-  both : (bit_verdict s 0 (length table₀) r.fate ≡ Accepted) × (h ≡ header s)
+module _ (s table₀ table₁ : List ℕ) {answer : Result Header Cause} (r : ReadsBit s 0 table₀ table₁ answer) (h : Header) (e : answer ≡ Ok h) where
+  both : (bit_verdict s 0 (length table₀) r.fate ≡ no_cause) × (h ≡ header s)
   both = bit_accepted s 0 table₀ table₁ r h e
 
   -- the table has one bit's length

@@ -1,6 +1,7 @@
 -- Laws of the text's length: an accepted sheet has at most 32 stations, and so its numbers have at most two digits; of an outcome the recipe number may have
 -- three and the count two, the count only where a station is bad; and the stations below 10 have a line that is a byte shorter. Assumes nothing.
 use Prim.Native.Nat.{ℕ, zero, suc, ◌+◌, ◌-◌, ◌*◌, ◌≤◌, ◌<◌}
+use Rattle.std.specs.declared.result.Result.TheVariants.{Ok, Err}
 use mathlib.Core.Path.{◌≡◌, refl}
 use mathlib.Core.Bool.{Bool, true, false, not}
 use mathlib.Core.Logic.{◌⊎◌, inl, inr}
@@ -14,9 +15,8 @@ use Rattle.line.specs.Count.{count}
 use Rattle.line.proofs.CountLaws.{none_passes, witness, count_not}
 use Rattle.line.specs.Line.{rounds}
 use Rattle.line.specs.Marks.{marked}
-use Rattle.refusal.specs.Cause.{number}
-use Rattle.refusal.specs.declared.cause.Verdict.{Verdict}
-use Rattle.refusal.specs.declared.cause.Verdict.TheVariants.{Accepted, Refused}
+use Rattle.refusal.specs.Cause.{number, no_cause}
+use Rattle.refusal.specs.Cause.{Verdict}
 use Rattle.refusal.proofs.VerdictLaws.{both_accepted}
 use Rattle.broadcast.specs.Station.{at}
 use Rattle.broadcast.specs.Theorems.{value_at, grade_at, flag_at, garbled_at}
@@ -133,7 +133,7 @@ module _ (h : Header) (tables : List ℕ) (sound : SoundHeader h) where
           = λ i m g. two_digits (garbled_at (number_outcomes N) i) (omega (arith, ((number_outcome_bytes N).good i (m, g)).3, few)) in
           omega (arith, sound.most, stations_shorter N sound.most 2 (omega arith) two (omega arith) N.n 0 k (omega arith) (omega arith) (omega arith) (not-false _ e))
 
-  pub run_short : length (text (lines_by Accepted h (number_outcomes (run h tables)))) ≤ longest_listing
+  pub run_short : length (text (lines_by no_cause h (number_outcomes (run h tables)))) ≤ longest_listing
   run_short =
       let first = line_text (first_line h) in
       let rest = text (station_lines (number_outcomes (run h tables)) 0 h.line.n) in
@@ -142,7 +142,7 @@ module _ (h : Header) (tables : List ℕ) (sound : SoundHeader h) where
 -- ---- a listing
 
 module _ (s : List ℕ) (lent : ℕ) (fate : Fate s) where
-  sound_if : lent_verdict s lent fate ≡ Accepted → SoundHeader (header s)
+  sound_if : lent_verdict s lent fate ≡ no_cause → SoundHeader (header s)
   unfolding bit_verdict
   sound_if e = bit_sound s 0 lent (both_accepted (bit_to_8 s 0 lent) (chain_verdict s fate) e).0
 
@@ -151,5 +151,5 @@ module _ (s : List ℕ) (lent : ℕ) (fate : Fate s) where
   listing_short = go (lent_verdict s lent fate) refl
     where
       go : (v : Verdict) → lent_verdict s lent fate ≡ v → length (text (lines_by v (header s) (number_outcomes (run (header s) (table_of s fate))))) ≤ longest_listing
-      go Accepted e = run_short (header s) (table_of s fate) (sound_if e)
-      go (Refused c) e = omega (arith, refusal_short (number c))
+      go (Ok _) e = run_short (header s) (table_of s fate) (sound_if e)
+      go (Err c) e = omega (arith, refusal_short (number c))

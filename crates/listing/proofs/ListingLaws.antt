@@ -1,5 +1,7 @@
 -- Laws of the listing: its promise from what the reader and the rehearsal promise, and from buffers lent in part. Assumes nothing.
 use Prim.Native.Nat.{ℕ, ◌≤◌, min}
+use Rattle.std.specs.declared.result.Result.{Result}
+use Rattle.std.specs.declared.result.Result.TheVariants.{Ok, Err}
 use mathlib.Core.Path.{◌≡◌, refl, ◌∙◌}
 use mathlib.Core.List.{List, [], ◌∷◌, ◌++◌}
 use native.Mathlib.Nat.{zero-add}
@@ -8,16 +10,13 @@ use lib.ListN.{length, take, drop, take-append-drop}
 use lib.Seq.{length-take-le}
 use Rattle.line.specs.Width.{bits}
 use Rattle.line.proofs.WidthLaws.{bits_some}
-use Rattle.refusal.specs.Cause.{number, written}
+use Rattle.refusal.specs.Cause.{number, written, no_cause}
 use Rattle.refusal.specs.declared.cause.Cause.{Cause}
-use Rattle.refusal.specs.declared.cause.Verdict.{Verdict}
-use Rattle.refusal.specs.declared.cause.Verdict.TheVariants as verdict
+use Rattle.refusal.specs.Cause.{Verdict}
 use Rattle.broadcast.specs.Bytes.{log}
 use Rattle.number.specs.Numbers.{bit_run, number_outcomes}
 use Rattle.layout.specs.declared.Header.{Header}
 use Rattle.layout.specs.Layout.{header, table_wanted}
-use Rattle.reader.specs.declared.Reading.{Reading}
-use Rattle.reader.specs.declared.Reading.TheVariants as reading
 use Rattle.reader.specs.Reading.{table_of, bit_table, ReadsBit}
 use Rattle.text.specs.Laid.{laid, Puts}
 use Rattle.text.proofs.LaidLaws.{laid_front, after_within}
@@ -36,7 +35,7 @@ module _ (s : List ℕ) (h : Header) (table bytes results : List ℕ) (P : BitsR
   unfolding number_outcomes
   its_outcomes = P.in_turn.outcomes_are (bits_some h.w) ∙ rw P.header_is refl
 
-  pub lists_run : (text₀ text₁ : List ℕ) (answer : ℕ) → Puts text₀ text₁ 0 (text (lines_by verdict.Accepted h results)) answer
+  pub lists_run : (text₀ text₁ : List ℕ) (answer : ℕ) → Puts text₀ text₁ 0 (text (lines_by no_cause h results)) answer
       → ListsRun s table bytes text₀ text₁ answer
   unfolding listing
   lists_run text₀ text₁ answer p =
@@ -51,8 +50,8 @@ module _ (s : List ℕ) (h : Header) (table bytes results : List ℕ) (P : BitsR
 
 -- ---- a sheet, listed
 
-module _ (s table₀ table₁ : List ℕ) {answer : Reading} (r : ReadsBit s 0 table₀ table₁ answer) where
-  pub whole_accepted : (h : Header) → answer ≡ reading.Accepted h → (table₂ log₀ log₁ text₀ text₁ : List ℕ) (n : ℕ) → ListsRun s table₂ log₁ text₀ text₁ n
+module _ (s table₀ table₁ : List ℕ) {answer : Result Header Cause} (r : ReadsBit s 0 table₀ table₁ answer) where
+  pub whole_accepted : (h : Header) → answer ≡ Ok h → (table₂ log₀ log₁ text₀ text₁ : List ℕ) (n : ℕ) → ListsRun s table₂ log₁ text₀ text₁ n
       → ListsWhole s table₀ table₂ log₀ log₁ text₀ text₁ n
   whole_accepted h e table₂ log₀ log₁ text₀ text₁ n runs =
       let size = first_long s table₀ table₁ r h e in
@@ -64,7 +63,7 @@ module _ (s table₀ table₁ : List ℕ) {answer : Reading} (r : ReadsBit s 0 t
         log_is = rw v runs.log_is;
       }
 
-  pub whole_refused : (c : Cause) (k : ℕ) → answer ≡ reading.Refused c → k ≡ number c → (log₀ text₀ text₁ : List ℕ) (n : ℕ)
+  pub whole_refused : (c : Cause) (k : ℕ) → answer ≡ Err c → k ≡ number c → (log₀ text₀ text₁ : List ℕ) (n : ℕ)
       → Puts text₀ text₁ 0 (text ((refused ∷ num k ∷ []) ∷ [])) n → ListsWhole s table₀ table₁ log₀ log₀ text₀ text₁ n
   unfolding listing
   whole_refused c k e q log₀ text₀ text₁ n p =
@@ -76,8 +75,8 @@ module _ (s table₀ table₁ : List ℕ) {answer : Reading} (r : ReadsBit s 0 t
 -- what is written in a front, as said of the whole
 whole_of : (v : Verdict) (new old part : List ℕ) (k : ℕ) → k ≤ length old → length part ≡ k → part ≡ written v new (take k old)
     → part ++ drop k old ≡ written v (laid old 0 new) old
-whole_of verdict.Accepted new old part k h q e = laid_front part old k q h ∙ rw e
-whole_of (verdict.Refused c) new old part k h q e = rw e (take-append-drop k old)
+whole_of (Ok _) new old part k h q e = laid_front part old k q h ∙ rw e
+whole_of (Err c) new old part k h q e = rw e (take-append-drop k old)
 
 module _ (s table₀ table log₀ bytes text₀ text₁ : List ℕ) (answer a b : ℕ) (ha : b ≤ length table₀) (hb : b ≤ length log₀)
     (ea : a ≡ min (table_wanted s) (length table₀)) (eb : b ≡ min a (length log₀))

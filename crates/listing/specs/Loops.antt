@@ -1,9 +1,8 @@
 -- What the private functions of the listing do: for their contracts, and no part of what the public call promises.
 use Rattle.std.specs.Prelude.{ℕ, ◌-◌, ◌≡◌, List, length}
 use Rattle.line.specs.Width.{bit_of}
-use Rattle.refusal.specs.Cause.{written}
-use Rattle.refusal.specs.declared.cause.Verdict.{Verdict}
-use Rattle.refusal.specs.declared.cause.Verdict.TheVariants.{Accepted}
+use Rattle.refusal.specs.Cause.{written, no_cause}
+use Rattle.refusal.specs.Cause.{Verdict}
 use Rattle.broadcast.specs.Bytes.{log}
 use Rattle.number.specs.Numbers.{bit_run}
 use Rattle.rehearsal.specs.Promise.{run_of}
@@ -25,7 +24,7 @@ pub record BitRehearsed (h : Header) (b : ℕ) (table log₀ log₁ outcomes₀ 
 -- an accepted sheet with its header, its first bit's table, and a log as long
 pub record Begun (s : List ℕ) (h : Header) (table bytes : List ℕ) : Type 0 where
   pub fate : Fate s
-  pub accepted : verdict s fate ≡ Accepted
+  pub accepted : verdict s fate ≡ no_cause
   pub header_is : h ≡ header s
   pub table_is : table ≡ bit_table s fate 0
   pub log_whole : length bytes ≡ table_wanted s
@@ -33,7 +32,7 @@ pub record Begun (s : List ℕ) (h : Header) (table bytes : List ℕ) : Type 0 w
 -- m bits of an accepted sheet are rehearsed, one after another: table and log are the last one's, and before the first one the table is its
 pub record BitsRun (s : List ℕ) (h : Header) (m : ℕ) (table bytes results : List ℕ) : Type 0 where
   pub fate : Fate s
-  pub accepted : verdict s fate ≡ Accepted
+  pub accepted : verdict s fate ≡ no_cause
   pub header_is : h ≡ header s
   pub table_is : table ≡ bit_table s fate (m - 1)
   pub in_turn : InTurn (run (header s) (table_of s fate)) m bytes results
@@ -41,7 +40,7 @@ pub record BitsRun (s : List ℕ) (h : Header) (m : ℕ) (table bytes results : 
 -- what is listed of an accepted sheet, and its last bit's table and log
 pub record ListsRun (s table₁ log₁ text₀ text₁ : List ℕ) (answer : ℕ) : Type 0 where
   pub fate : Fate s
-  pub accepted : verdict s fate ≡ Accepted
+  pub accepted : verdict s fate ≡ no_cause
   pub puts : Puts text₀ text₁ 0 (listing s (table_wanted s) fate) answer
   pub table_is : table₁ ≡ bit_table s fate (last_bit s)
   pub log_is : log₁ ≡ log (bit_run (run (header s) (table_of s fate)) (last_bit s))

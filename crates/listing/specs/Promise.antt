@@ -2,7 +2,7 @@
 use Rattle.std.specs.Prelude.{ℕ, ◌-◌, ◌≤◌, min, ◌≡◌, List, length, take}
 use Rattle.line.specs.Width.{bits}
 use Rattle.refusal.specs.Cause.{written}
-use Rattle.refusal.specs.declared.cause.Verdict.{Verdict}
+use Rattle.refusal.specs.Cause.{Verdict}
 use Rattle.broadcast.specs.Bytes.{log}
 use Rattle.number.specs.Numbers.{bit_run, number_outcomes}
 use Rattle.layout.specs.Layout.{header, table_wanted}

@@ -8,7 +8,6 @@ ghost use Rattle.listing.specs.Loops.{BitRehearsed, BitsRun, Begun, ListsRun, Li
 
 use layout::Header;
 use line::{Line, width};
-use reader::Reading;
 
 // Rehearses bit b of what was read, whose table is there, and gathers its outcomes with those of the bits below it.
 fn rehearse_bit(header: Header, b: u8, table: &[u8], log: &mut [u8], outcomes: &mut [u8])
@@ -94,10 +93,9 @@ fn list_whole(sheet: &[u8], table: &mut [u8], log: &mut [u8], text: &mut [u8]) -
     requires { length log.old ≡ length table.old }
     ensures { ListsWhole sheet.now table.old table.new log.old log.new text.old text.new result }
 {
-    let reading = reader::read_bit(sheet, 0, table);
-    match reading {
-        Reading::Accepted(header) => list_run(header, sheet, table, log, text),
-        Reading::Refused(c) => listing_lines::of_refusal(text, c.number()),
+    match reader::read_bit(sheet, 0, table) {
+        Ok(header) => list_run(header, sheet, table, log, text),
+        Err(cause) => listing_lines::of_refusal(text, cause.number()),
     }
 }
 

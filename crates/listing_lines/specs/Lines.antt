@@ -1,9 +1,9 @@
 -- The lines of a listing, field by field (document 01, "Runs worked through"; document 02, requests 4 and 5).
 use Rattle.std.specs.Prelude.{ℕ, zero, suc, ◌+◌, List, [], ◌∷◌, eqb, if◌then◌else◌}
+use Rattle.std.specs.declared.result.Result.TheVariants.{Ok, Err}
 use Rattle.line.specs.Line.{rounds}
 use Rattle.refusal.specs.Cause.{number}
-use Rattle.refusal.specs.declared.cause.Verdict.{Verdict}
-use Rattle.refusal.specs.declared.cause.Verdict.TheVariants.{Accepted, Refused}
+use Rattle.refusal.specs.Cause.{Verdict}
 use Rattle.broadcast.specs.Theorems.{value_at, grade_at, flag_at, garbled_at}
 use Rattle.number.specs.Numbers.{NumberRun, number_outcomes}
 use Rattle.layout.specs.declared.Header.{Header}
@@ -38,8 +38,8 @@ station_lines bytes i (suc m) = station_line bytes i ∷ station_lines bytes (su
 
 -- "A refusal prints the one line `refused` and the number."
 abbrev pub lines_by : Verdict → Header → List ℕ → List (List Field)
-lines_by Accepted h bytes = first_line h ∷ station_lines bytes 0 h.line.n
-lines_by (Refused c) h bytes = (refused ∷ num (number c) ∷ []) ∷ []
+lines_by (Ok _) h bytes = first_line h ∷ station_lines bytes 0 h.line.n
+lines_by (Err c) h bytes = (refused ∷ num (number c) ∷ []) ∷ []
 
 -- ---- from the sheet to its listing
 

@@ -2,7 +2,7 @@
 #![tactic(auto)]
 
 ghost use Rattle.std.specs.Prelude.{◌≡◌, [], ◌∷◌, ◌<◌};
-ghost use Rattle.refusal.specs.declared.cause.Verdict.TheVariants.{Accepted};
+ghost use Rattle.refusal.specs.Cause.{no_cause};
 ghost use Rattle.text.specs.Laid.{Puts};
 ghost use Rattle.listing_lines.specs.Lines.{num, dash, refused, first_line, station_line, station_lines, lines_by};
 ghost use Rattle.listing_lines.specs.Text.{line_text, text};
@@ -75,7 +75,7 @@ fn station_lines(out: &mut [u8], at: usize, n: u8, outcomes: &[u8]) -> usize
 
 // All lines of a run, from a place on.
 pub fn of_run(out: &mut [u8], at: usize, header: Header, outcomes: &[u8]) -> usize
-    ensures { Puts out.old out.new at (text (lines_by Accepted header outcomes.now)) result }
+    ensures { Puts out.old out.new at (text (lines_by no_cause header outcomes.now)) result }
 {
     let a = first_line(out, at, header);
     station_lines(out, a, header.line.n, outcomes)

@@ -1,10 +1,10 @@
 -- Laws of what is written and read back: nothing that can be written is refused or changed. Assumes nothing.
 use Prim.Native.Nat.{ℕ}
+use Rattle.refusal.specs.Cause.{no_cause}
 use mathlib.Core.Path.{◌≡◌, sym, ◌∙◌}
 use mathlib.Core.List.{List}
 use native.Mathlib.Nat.{le_refl}
 use lib.ListN.{length}
-use Rattle.refusal.specs.declared.cause.Verdict.TheVariants.{Accepted}
 use Rattle.layout.specs.Layout.{header}
 use Rattle.layout.specs.Chain.{Fate, ends}
 use Rattle.judgement.specs.Judgement.{verdict_to_8, sheet_verdict}
@@ -21,8 +21,8 @@ use Rattle.normal_form.proofs.ChainLaws.{chain_ends}
 use Rattle.normal_form.proofs.SameLaws.{opening_formed, same_opening, written_same, written_header}
 use Rattle.normal_form.proofs.ReadLaws.{records_pass, filled_whole, filled_kept}
 
-module _ (h table : List ℕ) (w : before_buffer h table ≡ Accepted) where
-  taken : header_and_table h (length table) ≡ Accepted
+module _ (h table : List ℕ) (w : before_buffer h table ≡ no_cause) where
+  taken : header_and_table h (length table) ≡ no_cause
   taken = (before_both h table w).0
 
   well_formed : WellFormed (sheet h table) (how_many (header h) table)
@@ -31,7 +31,7 @@ module _ (h table : List ℕ) (w : before_buffer h table ≡ Accepted) where
     most = before_few h table w;
   }
 
-  opening : verdict_to_8 (sheet h table) (length table) ≡ Accepted
+  opening : verdict_to_8 (sheet h table) (length table) ≡ no_cause
   opening =
       let v = (taken_both h (length table) taken).1 in
       same_opening (sheet h table) h (written_same h table) (length table)
@@ -43,7 +43,7 @@ module _ (h table : List ℕ) (w : before_buffer h table ≡ Accepted) where
       let s = sheet h table in
       let k = how_many (header h) table in
       let here : Fate s = ends k (chain_ends h table) in
-      let v : sheet_verdict s (length table) here ≡ Accepted = rw (opening, records_pass h table k (le_refl k)) in
+      let v : sheet_verdict s (length table) here ≡ no_cause = rw (opening, records_pass h table k (le_refl k)) in
       let long = taken_length h (length table) taken in
       record {
         all_records = sym (bytes.records_are h table);

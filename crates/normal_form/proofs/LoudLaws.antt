@@ -1,5 +1,6 @@
 -- Laws of the table's bytes that are not silence: as many as chained records that speak. Assumes nothing.
 use Prim.Native.Nat.{ℕ, zero, suc, ◌<◌}
+use Rattle.refusal.specs.Cause.{no_cause}
 use mathlib.Core.Path.{◌≡◌, refl, sym, ◌∙◌}
 use mathlib.Core.Bool.{Bool, false, not}
 use mathlib.Core.List.{List}
@@ -10,7 +11,6 @@ use lib.Seq.{get_or-set_same, get_or-set_other}
 use Rattle.line.specs.Count.{count}
 use Rattle.line.specs.Ballot.{silence}
 use Rattle.line.proofs.CountLaws.{count_same, count_none, count_change}
-use Rattle.refusal.specs.declared.cause.Verdict.TheVariants.{Accepted}
 use Rattle.refusal.proofs.VerdictLaws.{both_accepted}
 use Rattle.layout.specs.Layout.{tables_wanted, ballot}
 use Rattle.layout.specs.Chain.{reached}
@@ -30,7 +30,7 @@ loud_is table p v e = rw e
 
 module _ (s : List ℕ) where
   -- m accepted records fill as many places as have a ballot other than silence
-  pub filled_loud : (m : ℕ) → records_verdict s m ≡ Accepted
+  pub filled_loud : (m : ℕ) → records_verdict s m ≡ no_cause
       → count (tables_wanted s) (loud (filled s m)) ≡ count m (speaking s)
   unfolding filled records_verdict count speaking
   filled_loud zero v =

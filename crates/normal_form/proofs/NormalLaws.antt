@@ -1,5 +1,6 @@
 -- Laws of the rewritten sheet: what an accepted sheet reads as can be written, reads the same, and is written the same again. Assumes nothing.
 use Rattle.std.specs.Prelude.{if◌then◌else◌}
+use Rattle.refusal.specs.Cause.{no_cause}
 use Prim.Native.Nat.{ℕ, ◌+◌, ◌/◌, ◌%◌, ◌≤◌, ◌<◌}
 use mathlib.Core.Path.{◌≡◌, refl, sym, ap, ◌∙◌}
 use mathlib.Core.Bool.{Bool, true, false, not, ◌&&◌}
@@ -14,7 +15,6 @@ use Rattle.line.specs.Marks.{marked}
 use Rattle.line.specs.Ballot.{silence}
 use Rattle.line.proofs.CountLaws.{count_le, count_same}
 use Rattle.refusal.specs.declared.cause.Cause.TheVariants.{TooManyRecords}
-use Rattle.refusal.specs.declared.cause.Verdict.TheVariants.{Accepted}
 use Rattle.refusal.proofs.VerdictLaws.{refused_false, both_accepted}
 use Rattle.layout.specs.Layout.{header, tables_wanted, most_records, records, round, from, to, ballot, bit}
 use Rattle.layout.specs.Chain.{Record, reached, Ends, Fate}
@@ -36,8 +36,8 @@ use Rattle.normal_form.proofs.ChainLaws.{is_record}
 use Rattle.normal_form.proofs.FrontLaws.{front_header, front_accepted, form}
 use Rattle.normal_form.proofs.LoudLaws.{loud, loud_is, filled_loud}
 
-module _ (s : List ℕ) (l : ℕ) (f : Fate s) (v : sheet_verdict s l f ≡ Accepted) where
-  opened : verdict_to_8 s l ≡ Accepted
+module _ (s : List ℕ) (l : ℕ) (f : Fate s) (v : sheet_verdict s l f ≡ no_cause) where
+  opened : verdict_to_8 s l ≡ no_cause
   unfolding sheet_verdict
   opened = (both_accepted (verdict_to_8 s l) (chain_verdict s f) v).0
 
@@ -95,7 +95,7 @@ module _ (s : List ℕ) (l : ℕ) (f : Fate s) (v : sheet_verdict s l f ≡ Acce
   shorter = rw (bytes.length_is (take 12 s) (table_of s f), front_header s) (omega (arith, few_written, (form s l opened).length_is))
 
   -- so it can be written
-  pub writable : before_buffer (take 12 s) (table_of s f) ≡ Accepted
+  pub writable : before_buffer (take 12 s) (table_of s f) ≡ no_cause
   unfolding before_buffer too_many
   writable =
       let z : l ≡ length (table_of s f) = opening_length s l opened ∙ sym (table_long s l f v) in

@@ -1,5 +1,6 @@
 -- Laws of the written sheet as it is read: accepted, with the header and the table handed in, and in its normal form. Assumes nothing.
 use Prim.Native.Nat.{ℕ, zero, suc, ◌+◌, ◌-◌, ◌≤◌, ◌<◌}
+use Rattle.refusal.specs.Cause.{no_cause}
 use mathlib.Core.Path.{◌≡◌, refl, sym, ◌∙◌}
 use mathlib.Core.Bool.{Bool, true, false, not}
 use mathlib.Core.Logic.{◌≢◌}
@@ -14,7 +15,6 @@ use Rattle.line.specs.Marks.{marked}
 use Rattle.line.specs.Ballot.{silence}
 use Rattle.line.proofs.CountLaws.{count_same, count_none, both_true}
 use Rattle.refusal.specs.declared.cause.Cause.TheVariants.{RecordForm, UnmarkedSender, Duplicate}
-use Rattle.refusal.specs.declared.cause.Verdict.TheVariants.{Accepted}
 use Rattle.refusal.proofs.VerdictLaws.{refused_false}
 use Rattle.layout.specs.Layout.{header, tables_wanted, from, to, ballot}
 use Rattle.layout.specs.Chain.{Record, reached}
@@ -105,7 +105,7 @@ module _ (h table : List ℕ) where
           let z = sym (place_at c (omega arith)) ∙ same_tells s (reached s c) (reached s a) e ∙ place_at a l in
           absurd (omega (arith, z, (in_order (header h) table).increasing (c + 1) (a + 1) (omega arith) (omega arith) (omega arith)))
 
-  record_passes : (a : ℕ) → a < how_many (header h) table → record_verdict (sheet h table) a ≡ Accepted
+  record_passes : (a : ℕ) → a < how_many (header h) table → record_verdict (sheet h table) a ≡ no_cause
   unfolding record_verdict record_form unmarked_sender duplicate
   record_passes a l =
       let s = sheet h table in
@@ -115,7 +115,7 @@ module _ (h table : List ℕ) where
       let y' : not (marked (header s).marks (from s (reached s a) - 1)) ≡ false = rw y in
       rw (refused_false RecordForm x, refused_false UnmarkedSender y', refused_false Duplicate (not_before a l))
 
-  pub records_pass : (m : ℕ) → m ≤ how_many (header h) table → records_verdict (sheet h table) m ≡ Accepted
+  pub records_pass : (m : ℕ) → m ≤ how_many (header h) table → records_verdict (sheet h table) m ≡ no_cause
   unfolding records_verdict
   records_pass zero l = refl
   records_pass (suc m) l = rw (records_pass m (omega arith), record_passes m l)

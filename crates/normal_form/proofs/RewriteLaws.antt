@@ -1,11 +1,11 @@
 -- Laws of an accepted sheet, rewritten: it is the sheet's normal form, and that of every sheet that reads alike. Assumes nothing.
 use Prim.Native.Nat.{ℕ, ◌+◌, ◌<◌}
+use Rattle.refusal.specs.Cause.{no_cause}
 use mathlib.Core.Path.{◌≡◌, sym, ◌∙◌}
 use mathlib.Core.List.{List}
 use native.Mathlib.Omega.{arith}
 use lib.ListN.{length, take}
 use lib.Seq.{ext_get_or}
-use Rattle.refusal.specs.declared.cause.Verdict.TheVariants.{Accepted}
 use Rattle.layout.specs.Layout.{tables_wanted}
 use Rattle.layout.specs.Chain.{Fate}
 use Rattle.judgement.specs.Judgement.{sheet_verdict}
@@ -19,7 +19,7 @@ use Rattle.normal_form.proofs.FrontLaws.{front_byte, front_same, front_header}
 use Rattle.reader.proofs.TableLaws.{table_long}
 use Rattle.normal_form.proofs.NormalLaws.{all_kept, number_written, shorter, writable, kept_record}
 
-module _ (s : List ℕ) (l : ℕ) (f : Fate s) (v : sheet_verdict s l f ≡ Accepted) where
+module _ (s : List ℕ) (l : ℕ) (f : Fate s) (v : sheet_verdict s l f ≡ no_cause) where
   -- the table is read back whole
   back : (g : Fate (sheet (take 12 s) (table_of s f))) → table_of (sheet (take 12 s) (table_of s f)) g ≡ table_of s f
   back g =

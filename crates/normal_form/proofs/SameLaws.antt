@@ -1,9 +1,9 @@
 -- Laws of two headers that differ in the first index only: they have the same numbers, and are judged and written alike. Assumes nothing.
 use Prim.Native.Nat.{ℕ, ◌+◌, ◌<◌}
+use Rattle.refusal.specs.Cause.{no_cause}
 use mathlib.Core.Path.{◌≡◌, ◌∙◌}
 use mathlib.Core.List.{List}
 use native.Mathlib.Omega.{arith}
-use Rattle.refusal.specs.declared.cause.Verdict.TheVariants.{Accepted}
 use Rattle.refusal.proofs.VerdictLaws.{both_accepted}
 use Rattle.layout.specs.Layout.{byte, two, four, header}
 use Rattle.judgement.specs.Judgement.{sheet_form, verdict_to_6, verdict_to_8}
@@ -17,7 +17,7 @@ pub record SameNumbers (h h' : List ℕ) : Type 0 where
   pub behind : (b : ℕ) → b < 4 → byte h (8 + b) ≡ byte h' (8 + b)
 
 -- causes 1, 15 and 2 to 8 begin with the form
-pub opening_formed : (s : List ℕ) (l : ℕ) → verdict_to_8 s l ≡ Accepted → sheet_form s ≡ Accepted
+pub opening_formed : (s : List ℕ) (l : ℕ) → verdict_to_8 s l ≡ no_cause → sheet_form s ≡ no_cause
 unfolding verdict_to_8 verdict_to_6
 opening_formed s l v = (both_accepted (sheet_form s) _ (both_accepted (verdict_to_6 s) _ v).0).0
 
@@ -39,7 +39,7 @@ module _ (h h' : List ℕ) (w : SameNumbers h h') where
       )
 
   -- where neither is refused for its form
-  pub same_opening : (l : ℕ) → sheet_form h ≡ Accepted → sheet_form h' ≡ Accepted → verdict_to_8 h l ≡ verdict_to_8 h' l
+  pub same_opening : (l : ℕ) → sheet_form h ≡ no_cause → sheet_form h' ≡ no_cause → verdict_to_8 h l ≡ verdict_to_8 h' l
   unfolding verdict_to_8 verdict_to_6
   same_opening l a b = rw (a, b, same_header)
 

@@ -1,8 +1,8 @@
 -- The normal form of an accepted sheet: "rewriting a read sheet drops unchained records and records of silence".
 use Rattle.std.specs.Prelude.{ℕ, ◌-◌, ◌≤◌, ◌<◌, ◌≡◌, Bool, true, not, ◌≢◌, List, eqb, length, take}
+use Rattle.refusal.specs.Cause.{no_cause}
 use Rattle.line.specs.Count.{count}
 use Rattle.line.specs.Ballot.{silence}
-use Rattle.refusal.specs.declared.cause.Verdict.TheVariants.{Accepted}
 use Rattle.layout.specs.Layout.{byte, header, records, round, from, to, ballot, bit}
 use Rattle.layout.specs.Chain.{Record, reached, Ends, Fate}
 use Rattle.judgement.specs.Judgement.{sheet_verdict}
@@ -38,7 +38,7 @@ pub record Tidy (s : List ℕ) : Type 0 where
 -- what rewriting makes of an accepted sheet
 pub record Rewrites (s : List ℕ) (f : Fate s) : Type 0 where
   -- nothing refuses it before the buffer's length is looked at, 14 neither
-  pub writable : before_buffer (take 12 s) (table_of s f) ≡ Accepted
+  pub writable : before_buffer (take 12 s) (table_of s f) ≡ no_cause
   -- it is no longer than it was
   pub no_longer : length (rewritten s f) ≤ length s
   pub tidy : Tidy (rewritten s f)
@@ -46,7 +46,7 @@ pub record Rewrites (s : List ℕ) (f : Fate s) : Type 0 where
   pub number_is : (m : ℕ) → Ends s m → records (rewritten s f) ≡ count m (speaking s)
   pub keeps : (a : ℕ) → Record s (reached s a) → speaking s a ≡ true → (i : ℕ) × SameContent s (reached s a) (rewritten s f) i
   -- it reads the same
-  pub accepted : (g : Fate (rewritten s f)) → sheet_verdict (rewritten s f) (length (table_of s f)) g ≡ Accepted
+  pub accepted : (g : Fate (rewritten s f)) → sheet_verdict (rewritten s f) (length (table_of s f)) g ≡ no_cause
   pub header_same : header (rewritten s f) ≡ header s
   pub table_same : (g : Fate (rewritten s f)) → table_of (rewritten s f) g ≡ table_of s f
   -- and rewriting it again changes no byte

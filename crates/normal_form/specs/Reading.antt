@@ -1,8 +1,8 @@
 -- What the reader makes of a written sheet: "The reader gives the table back, with 255 at the unmarked senders".
 use Rattle.std.specs.Prelude.{ℕ, ◌<◌, ◌≡◌, List, length, get_or, if◌then◌else◌}
+use Rattle.refusal.specs.Cause.{no_cause}
 use Rattle.line.specs.Marks.{marked}
 use Rattle.line.specs.Ballot.{silence}
-use Rattle.refusal.specs.declared.cause.Verdict.TheVariants.{Accepted}
 use Rattle.layout.specs.declared.Header.{Header}
 use Rattle.layout.specs.Layout.{header, records}
 use Rattle.layout.specs.Chain.{Ends, Fate}
@@ -21,7 +21,7 @@ pub record ReadBack (h table : List ℕ) : Type 0 where
   pub all_records : how_many (header h) table ≡ records (sheet h table)
   pub chain_ends : Ends (sheet h table) (how_many (header h) table)
   -- it is accepted with a buffer of the length handed in, whatever shows the fate of its chain
-  pub accepted : (f : Fate (sheet h table)) → sheet_verdict (sheet h table) (length table) f ≡ Accepted
+  pub accepted : (f : Fate (sheet h table)) → sheet_verdict (sheet h table) (length table) f ≡ no_cause
   -- and gives back the header's numbers and every byte of the tables
   pub header_back : header (sheet h table) ≡ header h
   pub length_back : (f : Fate (sheet h table)) → length (table_of (sheet h table) f) ≡ length table

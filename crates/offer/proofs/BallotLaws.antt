@@ -1,5 +1,7 @@
 -- An offer's ballot is what the station that it leads to tells; and every offer is of bytes. Assumes nothing.
 use Prim.Native.Nat.{ℕ, ◌+◌, ◌-◌, ◌≤◌, ◌<◌}
+use Rattle.std.specs.declared.result.Result.{Result}
+use Rattle.std.specs.declared.result.Result.TheVariants.{Ok, Err}
 use mathlib.Core.Path.{◌≡◌, refl, sym, subst, ◌∙◌}
 use mathlib.Core.Bool.{Bool, true, false}
 use mathlib.Core.List.{List}
@@ -18,14 +20,12 @@ use Rattle.broadcast.specs.Bytes.{column}
 use Rattle.state.specs.declared.Station.{Station}
 use Rattle.state.specs.Judgement.{is_done, Sound}
 use Rattle.state.proofs.SoundLaws.{sound_accepts, ready}
-use Rattle.station.specs.declared.Told.{Told}
-use Rattle.station.specs.declared.Told.TheVariants as told_answer
-use Rattle.station.specs.declared.StationResult.TheVariants.{Running, Done, Refused}
+use Rattle.station.specs.declared.StationResult.{StationResult}
+use Rattle.station.specs.declared.StationResult.TheVariants.{Running, Done}
 use Rattle.station.specs.Automaton.{setup_of, state_of, as_result, result_of}
 use Rattle.station.specs.Answers.{ballot_answer, result_answer}
 use Rattle.station.specs.Singly.{Singly}
 use Rattle.offer.specs.declared.Offer.{Offer}
-use Rattle.offer.specs.declared.Shown.TheVariants as shown
 use Rattle.offer.specs.Offers.{following, next_ballot, with_ballot, offer_of, show_answer}
 use Rattle.offer.specs.Theorems.{ShowsBallot, Ahead}
 use Rattle.offer.proofs.OfferLaws.{following_sound, telling_by_done, next_sound}
@@ -42,32 +42,34 @@ as_done : (d : Bool) (v g f k r : ℕ) {w h i l : ℕ} → as_result (if d then 
 as_done true v g f k r e = refl
 as_done false v g f k r e = let z : ◌≡◌ {A = ℕ} 0 1 = cc in absurd (omega arith)
 
-as_refused : (d : Bool) (v g f k r : ℕ) {c : Cause} → as_result (if d then done v g f k else running r) ≡ Refused c → ⊥
-as_refused true v g f k r e = let z : ◌≡◌ {A = ℕ} 0 1 = cc in omega arith
-as_refused false v g f k r e = let z : ◌≡◌ {A = ℕ} 0 1 = cc in omega arith
+as_refused : (q : StationResult) {c : Cause} → ◌≡◌ {A = Result StationResult Cause} (Ok q) (Err c) → ⊥
+as_refused q e = let z : ◌≡◌ {A = ℕ} 0 1 = cc in omega arith
+
+as_ok : {q q' : StationResult} → ◌≡◌ {A = Result StationResult Cause} (Ok q) (Ok q') → q ≡ q'
+as_ok e = cc
 
 module _ (s : Station) (h : Sound s) where
   abbrev d : Bool
   d = is_done s.t s.round
 
-  result_is : result_answer s ≡ as_result (if d then done s.value s.grade (flag_of s.grade) s.garbled else running s.round)
+  result_is : result_answer s ≡ Ok (as_result (if d then done s.value s.grade (flag_of s.grade) s.garbled else running s.round))
   unfolding result_of result is_done
   result_is = rw (sound_accepts s h)
 
-  tells_if_not : d ≡ false → ballot_answer s ≡ told_answer.Ballot (next_ballot s)
+  tells_if_not : d ≡ false → ballot_answer s ≡ Ok (next_ballot s)
   unfolding next_ballot
   tells_if_not e = rw (telling_by_done s h, refused_false StationState e, if_false silence (ballot (setup_of s) (state_of s)) e)
 
-  silent_if : d ≡ true → (next_ballot s ≡ 255) × (ballot_answer s ≡ told_answer.Refused StationState)
+  silent_if : d ≡ true → (next_ballot s ≡ 255) × (ballot_answer s ≡ Err StationState)
   unfolding next_ballot
   silent_if e = (if_true _ _ e, rw (telling_by_done s h, refused_true StationState e))
 
   pub shows_ballot : ShowsBallot s (offer_of s)
   unfolding with_ballot
   shows_ballot = record {
-    running = λ r e. tells_if_not (as_running d s.value s.grade (flag_of s.grade) s.garbled s.round (sym result_is ∙ e));
-    done = λ v g f k e. silent_if (as_done d s.value s.grade (flag_of s.grade) s.garbled s.round (sym result_is ∙ e));
-    one_of_these = λ c e. as_refused d s.value s.grade (flag_of s.grade) s.garbled s.round (sym result_is ∙ e);
+    running = λ r e. tells_if_not (as_running d s.value s.grade (flag_of s.grade) s.garbled s.round (as_ok (sym result_is ∙ e)));
+    done = λ v g f k e. silent_if (as_done d s.value s.grade (flag_of s.grade) s.garbled s.round (as_ok (sym result_is ∙ e)));
+    one_of_these = λ c e. as_refused _ (sym result_is ∙ e);
   }
 
 -- ---- its bytes
@@ -98,14 +100,14 @@ offer_bytes_of s h =
       ballot_byte = omega (arith, b);
     }
 
-pub shown_bytes : (s : Station) (row : List ℕ) (o : Offer) → show_answer s row ≡ shown.Following o → Bytes o
+pub shown_bytes : (s : Station) (row : List ℕ) (o : Offer) → show_answer s row ≡ Ok o → Bytes o
 shown_bytes s row o e =
     let (a, q) = is_shown s row e in
     subst Bytes (sym q) (offer_bytes_of (following s row) (following_sound s row (ready s row a)))
 
 -- ---- on the rows of a log
 
-same_told : {a : Told} {b c : ℕ} → a ≡ told_answer.Ballot b → a ≡ told_answer.Ballot c → b ≡ c
+same_told : {a : Result ℕ Cause} {b c : ℕ} → a ≡ Ok b → a ≡ Ok c → b ≡ c
 same_told p q = cc
 
 module _ (n t T sender : ℕ) (log outcomes : List ℕ) (i v : ℕ) (S : Singly n t T sender log outcomes i v) where

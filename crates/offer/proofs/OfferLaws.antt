@@ -1,5 +1,7 @@
 -- A station after an accepted row is sound, what it then tells is the offer's ballot, and two offers are the same exactly if they are equal. Assumes nothing.
 use Prim.Native.Nat.{ℕ}
+use Rattle.std.specs.declared.result.Result.{Result}
+use Rattle.std.specs.declared.result.Result.TheVariants.{Ok, Err}
 use mathlib.Core.Path.{◌≡◌, refl, sym, ap, subst, ◌∙◌}
 use mathlib.Core.Bool.{Bool, true, false}
 use mathlib.Core.List.{List}
@@ -10,25 +12,20 @@ use borrow.Author.Tests.{eqb-true, eq-eqb}
 use Rattle.std.specs.Prelude.{if◌then◌else◌}
 use Rattle.line.specs.Ballot.{silence}
 use Rattle.line.proofs.CountLaws.{both_true}
-use Rattle.refusal.specs.Cause.{code, given, refused_if}
+use Rattle.refusal.specs.Cause.{code, given, refused_if, no_cause, answered, values}
+use Rattle.refusal.proofs.VerdictLaws.{code_by, values_by}
 use Rattle.refusal.specs.declared.cause.Cause.{Cause}
 use Rattle.refusal.specs.declared.cause.Cause.TheVariants.{StationState}
-use Rattle.refusal.specs.declared.cause.Verdict.{Verdict}
-use Rattle.refusal.specs.declared.cause.Verdict.TheVariants.{Accepted, Refused}
+use Rattle.refusal.specs.Cause.{Verdict}
 use Rattle.broadcast.specs.Station.{ballot, at}
 use Rattle.broadcast.proofs.RoundLaws.{InRange, advance_range, advance_round, advance_count}
 use Rattle.state.specs.declared.Station.{Station}
 use Rattle.state.specs.Judgement.{is_done, telling_verdict, taking_verdict, Sound, Ready}
 use Rattle.state.proofs.SoundLaws.{sound_accepts, ready}
-use Rattle.station.specs.declared.Advanced.{Advanced}
-use Rattle.station.specs.declared.Advanced.TheVariants as advanced
-use Rattle.station.proofs.AnswerLaws.{advanced_case}
 use Rattle.station.specs.Automaton.{setup_of, state_of}
-use Rattle.station.specs.Answers.{told_by, advanced_number, advanced_values, advanced_by, advance_answer}
+use Rattle.station.specs.Answers.{bytes_of, advance_answer}
 use Rattle.offer.specs.declared.Offer.{Offer}
-use Rattle.offer.specs.declared.Shown.{Shown}
-use Rattle.offer.specs.declared.Shown.TheVariants as shown
-use Rattle.offer.specs.Offers.{following, next_ballot, with_ballot, told_byte, offer_told, offer_of, offer_for, offer_bytes, shown_number, shown_values, shown_by, Shows, same, comparing_verdict, accepting_verdict, Accepts}
+use Rattle.offer.specs.Offers.{following, next_ballot, with_ballot, told_byte, offer_told, offer_of, offer_for, offer_bytes, Shows, same, comparing_verdict, accepting_verdict, Accepts}
 
 -- ---- the station that follows
 
@@ -55,7 +52,7 @@ following_sound s row h =
     }
 
 -- a station's row taken, in crate station's words
-pub advance_is : (s : Station) (row : List ℕ) → advance_answer s row ≡ advanced_by (taking_verdict s (length row)) (following s row)
+pub advance_is : (s : Station) (row : List ℕ) → advance_answer s row ≡ answered (taking_verdict s (length row)) (following s row)
 unfolding following
 advance_is s row = refl
 
@@ -66,7 +63,7 @@ pub telling_by_done : (s : Station) → Sound s → telling_verdict s ≡ refuse
 unfolding telling_verdict
 telling_by_done s h = rw (sound_accepts s h)
 
-told_or_silent : (d : Bool) (b : ℕ) → told_byte (told_by (refused_if d StationState) b) ≡ (if d then silence else b)
+told_or_silent : (d : Bool) (b : ℕ) → told_byte (answered (refused_if d StationState) b) ≡ (if d then silence else b)
 unfolding refused_if
 told_or_silent true b = refl
 told_or_silent false b = refl
@@ -104,51 +101,43 @@ same_self a = rw (eq-eqb a.round _ refl, eq-eqb a.value _ refl, eq-eqb a.z _ ref
 
 -- ---- the calls' answers
 
-shown_case : (v : Verdict) (o : Offer) → (shown_number (shown_by v o) ≡ code v) × (shown_values (shown_by v o) ≡ given v (offer_bytes o))
-shown_case Accepted o = (refl, refl)
-shown_case (Refused c) o = (refl, refl)
+pub shows : (s : Station) (row : List ℕ) (r : Result Offer Cause) → r ≡ answered (taking_verdict s (length row)) (offer_for s row) → Shows s row r
+shows s row r e = record { answer = e; number_is = code_by _ _ e; values_are = values_by offer_bytes _ _ e }
 
-pub shows : (s : Station) (row : List ℕ) (r : Shown) → r ≡ shown_by (taking_verdict s (length row)) (offer_for s row) → Shows s row r
-shows s row r e =
-    let (a, b) = shown_case (taking_verdict s (length row)) (offer_for s row) in
-    record { answer = e; number_is = ap shown_number e ∙ a; values_are = ap shown_values e ∙ b }
-
-pub accepts : (s : Station) (row : List ℕ) (o : Offer) (r : Advanced) → r ≡ advanced_by (accepting_verdict s row o) (following s row) → Accepts s row o r
-accepts s row o r e =
-    let (a, b) = advanced_case (accepting_verdict s row o) (following s row) in
-    record { answer = e; number_is = ap advanced_number e ∙ a; values_are = ap advanced_values e ∙ b }
+pub accepts : (s : Station) (row : List ℕ) (o : Offer) (r : Result Station Cause) → r ≡ answered (accepting_verdict s row o) (following s row) → Accepts s row o r
+accepts s row o r e = record { answer = e; number_is = code_by _ _ e; values_are = values_by bytes_of _ _ e }
 
 -- ---- by what taking the row answers
 
-went : (v : Verdict) (after : Station) {next : Station} → advanced_by v after ≡ advanced.Next next → (v ≡ Accepted) × (next ≡ after)
-went Accepted after e = (refl, cc)
-went (Refused c) after e = let z : ◌≡◌ {A = ℕ} 0 1 = cc in absurd (omega arith)
+went : (v : Verdict) (after : Station) {next : Station} → answered v after ≡ Ok next → (v ≡ no_cause) × (next ≡ after)
+went (Ok _) after e = (refl, cc)
+went (Err c) after e = let z : ◌≡◌ {A = ℕ} 0 1 = cc in absurd (omega arith)
 
-stayed : (v : Verdict) (after : Station) {c : Cause} → advanced_by v after ≡ advanced.Refused c → v ≡ Refused c
-stayed Accepted after e = let z : ◌≡◌ {A = ℕ} 0 1 = cc in absurd (omega arith)
-stayed (Refused d) after e = cc
+stayed : (v : Verdict) (after : Station) {c : Cause} → answered v after ≡ Err c → v ≡ Err c
+stayed (Ok _) after e = let z : ◌≡◌ {A = ℕ} 0 1 = cc in absurd (omega arith)
+stayed (Err d) after e = cc
 
 module _ (s : Station) (row : List ℕ) where
-  pub is_next : {next : Station} → advance_answer s row ≡ advanced.Next next → (taking_verdict s (length row) ≡ Accepted) × (next ≡ following s row)
+  pub is_next : {next : Station} → advance_answer s row ≡ Ok next → (taking_verdict s (length row) ≡ no_cause) × (next ≡ following s row)
   is_next e = went (taking_verdict s (length row)) (following s row) (sym (advance_is s row) ∙ e)
 
-  pub is_refused : {c : Cause} → advance_answer s row ≡ advanced.Refused c → taking_verdict s (length row) ≡ Refused c
+  pub is_refused : {c : Cause} → advance_answer s row ≡ Err c → taking_verdict s (length row) ≡ Err c
   is_refused e = stayed (taking_verdict s (length row)) (following s row) (sym (advance_is s row) ∙ e)
 
-  pub next_sound : {next : Station} → advance_answer s row ≡ advanced.Next next → Sound next
+  pub next_sound : {next : Station} → advance_answer s row ≡ Ok next → Sound next
   next_sound e = let (a, q) = is_next e in subst Sound (sym q) (following_sound s row (ready s row a))
 
-  pub shown_next : {next : Station} → advance_answer s row ≡ advanced.Next next → (o : Offer) → o ≡ offer_told next → Shows s row (shown.Following o)
+  pub shown_next : {next : Station} → advance_answer s row ≡ Ok next → (o : Offer) → o ≡ offer_told next → Shows s row (Ok o)
   shown_next e o p = let (a, q) = is_next e in shows s row _ (rw (a, ← q, ← told_offer _ (next_sound e), ← p))
 
-  pub shown_refused : {c : Cause} → advance_answer s row ≡ advanced.Refused c → Shows s row (shown.Refused c)
+  pub shown_refused : {c : Cause} → advance_answer s row ≡ Err c → Shows s row (Err c)
   shown_refused e = shows s row _ (rw (is_refused e))
 
-  pub accepted_next : {next : Station} → advance_answer s row ≡ advanced.Next next → (o : Offer) (r : Advanced)
-      → r ≡ advanced_by (comparing_verdict o (offer_told next)) next → Accepts s row o r
+  pub accepted_next : {next : Station} → advance_answer s row ≡ Ok next → (o : Offer) (r : Result Station Cause)
+      → r ≡ answered (comparing_verdict o (offer_told next)) next → Accepts s row o r
   unfolding accepting_verdict
   accepted_next e o r p = let (a, q) = is_next e in accepts s row o r (rw (a, ← q, ← told_offer _ (next_sound e)) p)
 
-  pub accepted_refused : {c : Cause} → advance_answer s row ≡ advanced.Refused c → (o : Offer) → Accepts s row o (advanced.Refused c)
+  pub accepted_refused : {c : Cause} → advance_answer s row ≡ Err c → (o : Offer) → Accepts s row o (Err c)
   unfolding accepting_verdict
   accepted_refused e o = accepts s row o _ (rw (is_refused e))

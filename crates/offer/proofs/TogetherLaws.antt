@@ -1,34 +1,32 @@
 -- Offer, acceptance and taking a row, beside each other: of one station and row, and after cuts. Assumes nothing.
 use Prim.Native.Nat.{ℕ}
+use Rattle.std.specs.declared.result.Result.TheVariants.{Ok, Err}
 use mathlib.Core.Path.{◌≡◌, refl, sym, ap, ◌∙◌}
 use mathlib.Core.Logic.{◌≢◌}
 use mathlib.Core.Bool.{Bool, true, false, not}
 use mathlib.Core.List.{List, [], ◌∷◌}
 use native.Mathlib.Omega.{arith}
 use lib.ListN.{length}
-use Rattle.refusal.specs.Cause.{◌or_else◌}
+use Rattle.refusal.specs.Cause.{◌or_else◌, no_cause, answered}
 use Rattle.refusal.specs.declared.cause.Cause.{Cause}
 use Rattle.refusal.specs.declared.cause.Cause.TheVariants as cause
-use Rattle.refusal.specs.declared.cause.Verdict.{Verdict}
-use Rattle.refusal.specs.declared.cause.Verdict.TheVariants.{Accepted, Refused}
+use Rattle.refusal.specs.Cause.{Verdict}
 use Rattle.refusal.proofs.VerdictLaws.{refused_true, refused_false}
 use Rattle.state.specs.declared.Station.{Station}
 use Rattle.state.specs.Judgement.{taking_verdict}
-use Rattle.station.specs.declared.Advanced.TheVariants as advanced
-use Rattle.station.specs.Answers.{advanced_by, advance_answer}
+use Rattle.station.specs.Answers.{advance_answer}
 use Rattle.offer.specs.declared.Offer.{Offer}
-use Rattle.offer.specs.declared.Shown.TheVariants as shown
-use Rattle.offer.specs.Offers.{following, offer_for, shown_by, show_answer, same, comparing_verdict, accepting_verdict, accept_answer}
+use Rattle.offer.specs.Offers.{following, offer_for, show_answer, same, comparing_verdict, accepting_verdict, accept_answer}
 use Rattle.offer.specs.Theorems.{Together, kept, tried, NoneIs, AfterCuts}
 use Rattle.offer.proofs.OfferLaws.{same_equal, same_self, advance_is, is_next, is_refused}
 
 -- ---- an offer compared
 
-compared_same : (o : Offer) → comparing_verdict o o ≡ Accepted
+compared_same : (o : Offer) → comparing_verdict o o ≡ no_cause
 unfolding comparing_verdict
 compared_same o = refused_false cause.Offer (ap not (same_self o))
 
-compared_other : (held o : Offer) → held ≢ o → comparing_verdict held o ≡ Refused cause.Offer
+compared_other : (held o : Offer) → held ≢ o → comparing_verdict held o ≡ Err cause.Offer
 unfolding comparing_verdict
 compared_other held o ne = refused_true cause.Offer (ap not (go (same held o) refl))
   where
@@ -36,9 +34,9 @@ compared_other held o ne = refused_true cause.Offer (ap not (go (same held o) re
     go true e = absurd (ne (same_equal held o e))
     go false e = refl
 
-or_accepted : (v : Verdict) → (v or_else Accepted) ≡ v
-or_accepted Accepted = refl
-or_accepted (Refused c) = refl
+or_accepted : (v : Verdict) → (v or_else no_cause) ≡ v
+or_accepted (Ok _) = refl
+or_accepted (Err c) = refl
 
 -- ---- one station and row
 
@@ -47,20 +45,20 @@ module _ (s : Station) (row : List ℕ) where
   unfolding accepting_verdict
   right_offer = rw (compared_same (offer_for s row), or_accepted (taking_verdict s (length row))) (sym (advance_is s row))
 
-  shown_is : (v : Verdict) (right : Offer) {o : Offer} → shown_by v right ≡ shown.Following o → (v ≡ Accepted) × (o ≡ right)
-  shown_is Accepted right e = (refl, cc)
-  shown_is (Refused c) right e = let z : ◌≡◌ {A = ℕ} 0 1 = cc in absurd (omega arith)
+  shown_is : (v : Verdict) (right : Offer) {o : Offer} → answered v right ≡ Ok o → (v ≡ no_cause) × (o ≡ right)
+  shown_is (Ok _) right e = (refl, cc)
+  shown_is (Err c) right e = let z : ◌≡◌ {A = ℕ} 0 1 = cc in absurd (omega arith)
 
-  pub is_shown : {o : Offer} → show_answer s row ≡ shown.Following o → (taking_verdict s (length row) ≡ Accepted) × (o ≡ offer_for s row)
+  pub is_shown : {o : Offer} → show_answer s row ≡ Ok o → (taking_verdict s (length row) ≡ no_cause) × (o ≡ offer_for s row)
   is_shown e = shown_is (taking_verdict s (length row)) (offer_for s row) e
 
-  other_offer : (o held : Offer) → show_answer s row ≡ shown.Following o → held ≢ o → accept_answer s row held ≡ advanced.Refused cause.Offer
+  other_offer : (o held : Offer) → show_answer s row ≡ Ok o → held ≢ o → accept_answer s row held ≡ Err cause.Offer
   unfolding accepting_verdict
   other_offer o held e ne =
       let (a, q) = is_shown e in
       rw (a, compared_other held (offer_for s row) (λ (p : held ≡ offer_for s row). ne (p ∙ sym q)))
 
-  whatever_offer : (c : Cause) → taking_verdict s (length row) ≡ Refused c → (held : Offer) → accept_answer s row held ≡ advanced.Refused c
+  whatever_offer : (c : Cause) → taking_verdict s (length row) ≡ Err c → (held : Offer) → accept_answer s row held ≡ Err c
   unfolding accepting_verdict
   whatever_offer c e held = rw e
 
@@ -74,9 +72,9 @@ module _ (s : Station) (row : List ℕ) where
 
   -- ---- after cuts: another offer leaves the station
 
-  stays_by : (v : Verdict) → kept s (advanced_by (v or_else Refused cause.Offer) (following s row)) ≡ s
-  stays_by Accepted = refl
-  stays_by (Refused c) = refl
+  stays_by : (v : Verdict) → kept s (answered (v or_else Err cause.Offer) (following s row)) ≡ s
+  stays_by (Ok _) = refl
+  stays_by (Err c) = refl
 
   stays_at : (held : Offer) → held ≢ offer_for s row → kept s (accept_answer s row held) ≡ s
   unfolding accepting_verdict

@@ -1,21 +1,18 @@
 -- Offer and acceptance (document 02, request 8). What a row makes of a station, and what is refused of both, is crate station's and crate state's.
 use Rattle.std.specs.Prelude.{ℕ, ◌≡◌, Bool, ◌&&◌, not, List, [], ◌∷◌, eqb, length, if◌then◌else◌}
+use Rattle.refusal.specs.declared.cause.Cause.{Cause}
+use Rattle.std.specs.declared.result.Result.{Result}
+use Rattle.std.specs.declared.result.Result.TheVariants.{Ok, Err}
 use Rattle.line.specs.Ballot.{silence}
-use Rattle.refusal.specs.Cause.{number, code, given, refused_if, ◌or_else◌}
+use Rattle.refusal.specs.Cause.{number, code, given, refused_if, ◌or_else◌, answered, values}
 use Rattle.refusal.specs.declared.cause.Cause.TheVariants as cause
-use Rattle.refusal.specs.declared.cause.Verdict.{Verdict}
-use Rattle.refusal.specs.declared.cause.Verdict.TheVariants as verdict
+use Rattle.refusal.specs.Cause.{Verdict}
 use Rattle.broadcast.specs.Station.{ballot, advance, at}
 use Rattle.state.specs.declared.Station.{Station}
 use Rattle.state.specs.Judgement.{is_done, taking_verdict}
-use Rattle.station.specs.declared.Told.{Told}
-use Rattle.station.specs.declared.Told.TheVariants as told
-use Rattle.station.specs.declared.Advanced.{Advanced}
 use Rattle.station.specs.Automaton.{setup_of, state_of, in_state}
-use Rattle.station.specs.Answers.{bytes_of, ballot_answer, advanced_number, advanced_values, advanced_by}
+use Rattle.station.specs.Answers.{bytes_of, ballot_answer}
 use Rattle.offer.specs.declared.Offer.{Offer}
-use Rattle.offer.specs.declared.Shown.{Shown}
-use Rattle.offer.specs.declared.Shown.TheVariants as shown
 
 -- ---- what an offer is: "the following state and its ballot (255 if that state is done)"
 
@@ -51,26 +48,14 @@ offer_bytes o = o.round ∷ o.value ∷ o.z ∷ o.grade ∷ o.garbled ∷ o.ball
 
 -- ---- "an offer, which gives the following state and its ballot [..] and leaves the station alone": refused as the row is
 
-abbrev pub shown_number : Shown → ℕ
-shown_number (shown.Following o) = 0
-shown_number (shown.Refused c) = number c
-
-abbrev pub shown_values : Shown → List ℕ
-shown_values (shown.Following o) = offer_bytes o
-shown_values (shown.Refused c) = []
-
-abbrev pub shown_by : Verdict → Offer → Shown
-shown_by verdict.Accepted o = shown.Following o
-shown_by (verdict.Refused c) o = shown.Refused c
-
 -- what `show` answers
-abbrev pub show_answer : Station → List ℕ → Shown
-show_answer s row = shown_by (taking_verdict s (length row)) (offer_for s row)
+abbrev pub show_answer : Station → List ℕ → Result Offer Cause
+show_answer s row = answered (taking_verdict s (length row)) (offer_for s row)
 
-pub record Shows (s : Station) (row : List ℕ) (r : Shown) : Type 0 where
+pub record Shows (s : Station) (row : List ℕ) (r : Result Offer Cause) : Type 0 where
   pub answer : r ≡ show_answer s row
-  pub number_is : shown_number r ≡ code (taking_verdict s (length row))
-  pub values_are : shown_values r ≡ given (taking_verdict s (length row)) (offer_bytes (offer_for s row))
+  pub number_is : code r ≡ code (taking_verdict s (length row))
+  pub values_are : values offer_bytes r ≡ given (taking_verdict s (length row)) (offer_bytes (offer_for s row))
 
 -- ---- "and an acceptance with the same row"
 
@@ -88,19 +73,19 @@ unfoldable pub accepting_verdict : Station → List ℕ → Offer → Verdict
 accepting_verdict s row o = taking_verdict s (length row) or_else comparing_verdict o (offer_for s row)
 
 -- what `accept` answers
-abbrev pub accept_answer : Station → List ℕ → Offer → Advanced
-accept_answer s row o = advanced_by (accepting_verdict s row o) (following s row)
+abbrev pub accept_answer : Station → List ℕ → Offer → Result Station Cause
+accept_answer s row o = answered (accepting_verdict s row o) (following s row)
 
-pub record Accepts (s : Station) (row : List ℕ) (o : Offer) (r : Advanced) : Type 0 where
+pub record Accepts (s : Station) (row : List ℕ) (o : Offer) (r : Result Station Cause) : Type 0 where
   pub answer : r ≡ accept_answer s row o
-  pub number_is : advanced_number r ≡ code (accepting_verdict s row o)
-  pub values_are : advanced_values r ≡ given (accepting_verdict s row o) (bytes_of (following s row))
+  pub number_is : code r ≡ code (accepting_verdict s row o)
+  pub values_are : values bytes_of r ≡ given (accepting_verdict s row o) (bytes_of (following s row))
 
 -- ---- for private functions: the offer by what `station::ballot` answers, which of a station that follows is the one above
 
-abbrev pub told_byte : Told → ℕ
-told_byte (told.Ballot b) = b
-told_byte (told.Refused c) = silence
+abbrev pub told_byte : Result ℕ Cause → ℕ
+told_byte (Ok b) = b
+told_byte (Err c) = silence
 
 abbrev pub offer_told : Station → Offer
 offer_told next = with_ballot next (told_byte (ballot_answer next))

@@ -3,13 +3,13 @@
 #![tactic(auto)]
 
 ghost use Rattle.std.specs.Prelude.{◌≡◌};
-ghost use Rattle.station.specs.Answers.{ballot_answer, advanced_by};
+ghost use Rattle.refusal.specs.Cause.{answered};
+ghost use Rattle.station.specs.Answers.{ballot_answer};
 ghost use Rattle.offer.specs.Offers.{with_ballot, told_byte, offer_told, same, comparing_verdict, Shows, Accepts};
 
 use line::Line;
 use refusal::cause::Cause;
 use state::Station;
-use station::{Advanced, Told};
 
 pub mod word;
 
@@ -24,22 +24,11 @@ pub struct Offer {
     pub ballot: u8,
 }
 
-// The answer to asking for an offer.
-#[derive(Clone, Copy)]
-pub enum Shown {
-    Following(Offer),
-    Refused(Cause),
-}
-
 // What a station tells; 255 where it is refused, as a station that follows is only if it is done.
 fn ballot_of(s: Station) -> u8
     ensures { result ≡ told_byte (ballot_answer s) }
 {
-    let told = station::ballot(s);
-    match told {
-        Told::Ballot(b) => b,
-        Told::Refused(_) => Line::SILENCE,
-    }
+    station::ballot(s).unwrap_or(Line::SILENCE)
 }
 
 // The offer of this state and ballot.
@@ -79,35 +68,29 @@ fn same(a: Offer, b: Offer) -> bool
 }
 
 // The station that follows, if the offer is the one that leads to it.
-fn compared(following: Station, o: Offer) -> Advanced
-    ensures { result ≡ advanced_by (comparing_verdict o (offer_told following)) following }
+fn compared(following: Station, o: Offer) -> Result<Station, Cause>
+    ensures { result ≡ answered (comparing_verdict o (offer_told following)) following }
 {
     let right = offer_of(following, ballot_of(following));
     if same(o, right) {
-        Advanced::Next(following)
+        Ok(following)
     } else {
-        Advanced::Refused(Cause::Offer)
+        Err(Cause::Offer)
     }
 }
 
 // The state after the row, and its ballot; the station stays.
-pub fn show(s: Station, row: &[u8]) -> Shown
+pub fn show(s: Station, row: &[u8]) -> Result<Offer, Cause>
     ensures { Shows s row.now result }
 {
-    let advanced = station::advance(s, row);
-    match advanced {
-        Advanced::Next(next) => Shown::Following(offer_of(next, ballot_of(next))),
-        Advanced::Refused(c) => Shown::Refused(c),
-    }
+    let next = station::advance(s, row)?;
+    Ok(offer_of(next, ballot_of(next)))
 }
 
 // The station after the row, if the offer is the one that this station and row give.
-pub fn accept(s: Station, row: &[u8], o: Offer) -> Advanced
+pub fn accept(s: Station, row: &[u8], o: Offer) -> Result<Station, Cause>
     ensures { Accepts s row.now o result }
 {
-    let advanced = station::advance(s, row);
-    match advanced {
-        Advanced::Next(next) => compared(next, o),
-        Advanced::Refused(c) => Advanced::Refused(c),
-    }
+    let next = station::advance(s, row)?;
+    compared(next, o)
 }

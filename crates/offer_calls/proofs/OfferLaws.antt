@@ -1,19 +1,18 @@
 -- Offer and acceptance on numbers, by what is shown of them by value. Assumes nothing.
 use Prim.Native.Nat.{ℕ, ◌<◌}
+use Rattle.offer.specs.declared.Offer.{Offer}
+use Rattle.std.specs.declared.result.Result.{Result}
+use Rattle.std.specs.declared.result.Result.TheVariants.{Ok, Err}
 use mathlib.Core.Path.{◌≡◌, refl, sym, ap, ◌∙◌}
 use mathlib.Core.Logic.{◌≢◌}
 use mathlib.Core.List.{List}
 use native.Mathlib.Omega.{arith}
-use Rattle.refusal.specs.Cause.{number, answer_word}
+use Rattle.refusal.specs.Cause.{number, answer_word, code}
 use Rattle.refusal.specs.declared.cause.Cause.{Cause}
 use Rattle.refusal.proofs.VerdictLaws.{number_some}
 use Rattle.state.specs.declared.Station.{Station}
-use Rattle.station.specs.declared.Advanced.{Advanced}
-use Rattle.station.specs.declared.Advanced.TheVariants.{Next, Refused}
-use Rattle.station.specs.Answers.{advanced_number, advance_answer}
-use Rattle.offer.specs.declared.Shown.{Shown}
-use Rattle.offer.specs.declared.Shown.TheVariants as shown
-use Rattle.offer.specs.Offers.{offer_of, shown_number, show_answer, accept_answer}
+use Rattle.station.specs.Answers.{advance_answer}
+use Rattle.offer.specs.Offers.{offer_of, show_answer, accept_answer}
 use Rattle.offer.specs.Words.{offer_word, offer_in}
 use Rattle.offer.proofs.TogetherLaws.{together}
 use Rattle.offer.proofs.WordLaws.{small}
@@ -35,14 +34,14 @@ module _ (n t T sender own state : ℕ) (row : List ℕ) (offered taken : ℕ) (
   s = station_of n t T sender own state
 
   -- an answer of acceptance or taking, as a number
-  abbrev in_word : Advanced → ℕ
-  in_word a = answer_word (advanced_number a) (advanced_word s a)
+  abbrev in_word : Result Station Cause → ℕ
+  in_word a = answer_word (code a) (advanced_word s a)
 
-  abbrev shown_in_word : Shown → ℕ
-  shown_in_word o = answer_word (shown_number o) (shown_word o)
+  abbrev shown_in_word : Result Offer Cause → ℕ
+  shown_in_word o = answer_word (code o) (shown_word o)
 
-  module _ (next : Station) (e : advance_answer s row ≡ Next next) where
-    shows : show_answer s row ≡ shown.Following (offer_of next)
+  module _ (next : Station) (e : advance_answer s row ≡ Ok next) where
+    shows : show_answer s row ≡ Ok (offer_of next)
     shows = (together s row).shows next e
 
     the_word : offered ≡ offer_word (offer_of next)
@@ -69,7 +68,7 @@ module _ (n t T sender own state : ℕ) (row : List ℕ) (offered taken : ℕ) (
     next_number : refusal_in taken ≡ 0
     next_number = ap refusal_in (Q.answer ∙ ap in_word e) ∙ number_of 0 _
 
-  module _ (c : Cause) (e : advance_answer s row ≡ Refused c) where
+  module _ (c : Cause) (e : advance_answer s row ≡ Err c) where
     any_offer : (offer r : ℕ) → AcceptAnswer n t T sender own state row offer r → r ≡ taken
     any_offer offer r A =
         A.answer ∙ ap in_word (((together s row).refused c e).1 (offer_in offer) ∙ sym e) ∙ sym Q.answer
@@ -80,13 +79,13 @@ module _ (n t T sender own state : ℕ) (row : List ℕ) (offered taken : ℕ) (
   pub on_numbers : OnNumbers n t T sender own state row offered taken
   on_numbers = go (advance_answer s row) refl
     where
-      go : (a : Advanced) → advance_answer s row ≡ a → OnNumbers n t T sender own state row offered taken
-      go (Next next) e = record {
+      go : (a : Result Station Cause) → advance_answer s row ≡ a → OnNumbers n t T sender own state row offered taken
+      go (Ok next) e = record {
         handed_on = next_handed_on next e;
         other = λ offer r z. next_other next e offer r;
         refused = λ offer r h A. absurd (omega (arith, h, next_number next e));
       }
-      go (Refused c) e = record {
+      go (Err c) e = record {
         handed_on = any_offer c e offered;
         other = λ offer r z ne A. absurd (omega (arith, z, refused_number c e, number_some c));
         refused = λ offer r h. any_offer c e offer r;

@@ -1,28 +1,28 @@
 -- What the acceptance by value promises, said of the lent station that it leaves. Assumes nothing.
 use Prim.Native.Nat.{ℕ}
-use mathlib.Core.Path.{◌≡◌, ap, ◌∙◌}
+use Rattle.refusal.specs.declared.cause.Cause.{Cause}
+use Rattle.std.specs.declared.result.Result.{Result}
+use Rattle.std.specs.declared.result.Result.TheVariants.{Ok, Err}
+use mathlib.Core.Path.{◌≡◌}
 use mathlib.Core.List.{List}
+use Rattle.refusal.specs.Cause.{number, code}
+use Rattle.refusal.proofs.VerdictLaws.{code_by}
 use Rattle.state.specs.declared.Station.{Station}
-use Rattle.station.specs.declared.Advanced.{Advanced}
 use Rattle.offer.specs.declared.Offer.{Offer}
 use Rattle.offer.specs.Offers.{accepting_verdict, Accepts}
 use Rattle.offer.specs.Words.{offer_in}
-use Rattle.lent.specs.declared.Taken.{Taken}
-use Rattle.lent.specs.declared.Taken.TheVariants.{Next, Refused}
-use Rattle.lent.proofs.StepLaws.{made, made_is, answered, left, by_verdict}
-use Rattle.offer_calls.specs.Lent.{accepted_or_same, accepted, AcceptsLent}
+use Rattle.lent.proofs.StepLaws.{left, left_by}
+use Rattle.offer_calls.specs.Lent.{accepted_or_same, AcceptsLent}
 
-pub made_accepted : (s : Station) (row : List ℕ) (offer : ℕ) (f : Offer) → f ≡ offer_in offer → (o : Advanced) → Accepts s row f o → made o ≡ accepted s row offer
-made_accepted s row offer f g o p = ap made p.answer ∙ made_is _ (accepting_verdict s row f) ∙ rw g
-
-module _ (s : Station) (row : List ℕ) (offer : ℕ) where
-  by_acceptance : (r : Taken) → r ≡ accepted s row offer → AcceptsLent s row offer (left s r) (answered r)
+module _ (s : Station) (row : List ℕ) (offer : ℕ) {f : Offer} (g : f ≡ offer_in offer) where
+  by_acceptance : {r : Result Station Cause} → Accepts s row f r → AcceptsLent s row offer (left s r) (code r)
   unfolding accepted_or_same
-  by_acceptance r e =
-      let (a, b) = by_verdict s _ (accepting_verdict s row (offer_in offer)) r e in record { answer_is = a; station_is = b }
+  by_acceptance p =
+      rw (← g)
+      (record { answer_is = code_by (accepting_verdict s row f) _ p.answer; station_is = left_by s _ (accepting_verdict s row f) p.answer })
 
-  pub accepted_next : (next : Station) → Next next ≡ accepted s row offer → AcceptsLent s row offer next 0
-  accepted_next next = by_acceptance (Next next)
+  pub accepted_next : {r : Result Station Cause} {next : Station} → Accepts s row f r → r ≡ Ok next → AcceptsLent s row offer next 0
+  accepted_next p e = rw e at (by_acceptance p)
 
-  pub accepted_refused : (k : ℕ) → Refused k ≡ accepted s row offer → AcceptsLent s row offer s k
-  accepted_refused k = by_acceptance (Refused k)
+  pub accepted_refused : {r : Result Station Cause} {c : Cause} → Accepts s row f r → r ≡ Err c → AcceptsLent s row offer s (number c)
+  accepted_refused p e = rw e at (by_acceptance p)

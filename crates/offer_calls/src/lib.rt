@@ -4,15 +4,12 @@
 
 ghost use Rattle.std.specs.Prelude.{◌≡◌};
 ghost use Rattle.offer_calls.specs.Words.{OfferAnswer, AcceptAnswer};
-ghost use Rattle.offer_calls.specs.Lent.{accepted, AcceptsLent};
+ghost use Rattle.offer_calls.specs.Lent.{AcceptsLent};
 
 use controller::words;
-use lent::Taken;
-use offer::{Shown, word};
+use offer::word;
 use refusal::cause;
-use refusal::cause::Cause;
 use state::Station;
-use station::Advanced;
 
 // The state after the row and, above its five bytes, the ballot of that state; the station stays.
 #[unsafe(no_mangle)]
@@ -27,10 +24,9 @@ pub extern "C" fn vembopu_offer(
 ) -> u64
     ensures { OfferAnswer n t upper sender own state row.now result }
 {
-    let shown = offer::show(words::station(n, t, upper, sender, own, state), row);
-    match shown {
-        Shown::Following(o) => cause::answer(0, word::of_offer(o)),
-        Shown::Refused(c) => cause::answer(c.number(), 0),
+    match offer::show(words::station(n, t, upper, sender, own, state), row) {
+        Ok(o) => cause::answer(0, word::of_offer(o)),
+        Err(cause) => cause::answer(cause.number(), 0),
     }
 }
 
@@ -49,21 +45,9 @@ pub extern "C" fn vembopu_accept(
     ensures { AcceptAnswer n t upper sender own state row.now offer result }
 {
     let s = words::station(n, t, upper, sender, own, state);
-    let advanced = offer::accept(s, row, word::read(offer));
-    match advanced {
-        Advanced::Next(next) => cause::answer(0, words::state(next)),
-        Advanced::Refused(c) => cause::answer(c.number(), words::state(s)),
-    }
-}
-
-// The acceptance by value.
-fn accept(s: Station, row: &[u8], bits: u64) -> Taken
-    ensures { result ≡ accepted s row.now bits }
-{
-    let advanced = offer::accept(s, row, word::read(bits));
-    match advanced {
-        Advanced::Next(following) => Taken::Next(following),
-        Advanced::Refused(cause) => Taken::Refused(cause.number()),
+    match offer::accept(s, row, word::read(offer)) {
+        Ok(next) => cause::answer(0, words::state(next)),
+        Err(cause) => cause::answer(cause.number(), words::state(s)),
     }
 }
 
@@ -73,11 +57,11 @@ fn accept(s: Station, row: &[u8], bits: u64) -> Taken
 pub extern "C" fn vembopu_accept_lent(s: &mut Station, row: &[u8], offer: u64) -> u8
     ensures { AcceptsLent s.old row.now offer s.new result }
 {
-    match accept(*s, row, offer) {
-        Taken::Next(next) => {
+    match offer::accept(*s, row, word::read(offer)) {
+        Ok(next) => {
             *s = next;
             0
         }
-        Taken::Refused(k) => k,
+        Err(cause) => cause.number(),
     }
 }

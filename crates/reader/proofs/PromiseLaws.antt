@@ -1,5 +1,7 @@
 -- Laws of what the reader promises: what causes 1, 15 and 2 to 8 let through, and the promise by what the verdict is. Assumes nothing.
 use Prim.Native.Nat.{ℕ, ◌+◌, ◌*◌, ◌≤◌, ◌<◌}
+use Rattle.std.specs.declared.result.Result.{Result}
+use Rattle.std.specs.declared.result.Result.TheVariants.{Ok, Err}
 use mathlib.Core.Path.{◌≡◌, refl, ap, ◌∙◌}
 use mathlib.Core.List.{List}
 use native.Mathlib.Nat.{suc-mul, mul-le-mul_right}
@@ -12,20 +14,17 @@ use mir.Val.{Fits as FitsWord}
 use Rattle.line.specs.Width.{bits, part_of}
 use Rattle.line.proofs.LineLaws.{table_bound, product_fits}
 use Rattle.line.proofs.WidthLaws.{bits_most}
-use Rattle.refusal.specs.Cause.{◌or_else◌, code, written, given}
+use Rattle.refusal.specs.Cause.{◌or_else◌, code, written, given, no_cause, answered, values}
 use Rattle.header.specs.Header.{exact_length}
 use Rattle.refusal.specs.declared.cause.Cause.{Cause}
-use Rattle.refusal.specs.declared.cause.Verdict.{Verdict}
-use Rattle.refusal.specs.declared.cause.Verdict.TheVariants as verdict
+use Rattle.refusal.specs.Cause.{Verdict}
 use Rattle.refusal.proofs.VerdictLaws.{refused_false, accepted_false, both_accepted}
 use Rattle.header.proofs.HeaderLaws.{number_sound, length_exact, length_accepts}
 use Rattle.layout.specs.declared.Header.{Header}
-use Rattle.reader.specs.declared.Reading.{Reading}
-use Rattle.reader.specs.declared.Reading.TheVariants as reading
 use Rattle.layout.specs.Layout.{header, table_wanted, tables_wanted, most_records, records}
 use Rattle.layout.specs.Chain.{Fate, leaves, again, ends}
 use Rattle.judgement.specs.Judgement.{sheet_form, verdict_to_6, verdict_to_8, bit_there, bit_to_8, chain_verdict, sheet_verdict, bit_verdict}
-use Rattle.reader.specs.Reading.{table_of, bit_table, numbers_of, reading_number, reading_values, reading_by, Reads, ReadsBit}
+use Rattle.reader.specs.Reading.{table_of, bit_table, numbers_of, Reads, ReadsBit}
 use Rattle.reader.specs.Loops.{SoundHeader, Opened, ReadsPart, Whole, laid}
 use Rattle.judgement.proofs.FormLaws.{form_sound}
 use Rattle.layout.proofs.ChainLaws.{fate}
@@ -35,7 +34,7 @@ use Rattle.reader.proofs.WalkLaws.{laid_filled}
 module _ (s : List ℕ) where
   -- ---- what causes 1, 15 and 2 to 6 let through
 
-  module _ (e : verdict_to_6 s ≡ verdict.Accepted) where
+  module _ (e : verdict_to_6 s ≡ no_cause) where
     pub opened_most : records s ≤ most_records
     unfolding verdict_to_6
     opened_most = (form_sound s (both_accepted (sheet_form s) _ e).0).most
@@ -46,8 +45,8 @@ module _ (s : List ℕ) where
 
   -- ---- and 8, with a buffer for all bits
 
-  module _ (l : ℕ) (e : verdict_to_8 s l ≡ verdict.Accepted) where
-    opening_both : (verdict_to_6 s ≡ verdict.Accepted) × (exact_length (tables_wanted s) l ≡ verdict.Accepted)
+  module _ (l : ℕ) (e : verdict_to_8 s l ≡ no_cause) where
+    opening_both : (verdict_to_6 s ≡ no_cause) × (exact_length (tables_wanted s) l ≡ no_cause)
     unfolding verdict_to_8
     opening_both = both_accepted (verdict_to_6 s) (exact_length (tables_wanted s) l) e
 
@@ -66,8 +65,8 @@ module _ (s : List ℕ) where
 
   -- ---- and with one for bit b
 
-  module _ (b l : ℕ) (e : bit_to_8 s b l ≡ verdict.Accepted) where
-    bit_opening : (verdict_to_6 s ≡ verdict.Accepted) × (exact_length (table_wanted s) l or_else bit_there s b ≡ verdict.Accepted)
+  module _ (b l : ℕ) (e : bit_to_8 s b l ≡ no_cause) where
+    bit_opening : (verdict_to_6 s ≡ no_cause) × (exact_length (table_wanted s) l or_else bit_there s b ≡ no_cause)
     unfolding bit_to_8
     bit_opening = both_accepted (verdict_to_6 s) (exact_length (table_wanted s) l or_else bit_there s b) e
 
@@ -98,18 +97,18 @@ module _ (s : List ℕ) where
   -- ---- the promise
 
   -- the number is the verdict's
-  number_by : (v : Verdict) (h : Header) → reading_number (reading_by v h) ≡ code v
-  number_by verdict.Accepted h = refl
-  number_by (verdict.Refused c) h = refl
+  number_by : (v : Verdict) (h : Header) → code (answered v h) ≡ code v
+  number_by (Ok _) h = refl
+  number_by (Err c) h = refl
 
   -- and so are the values
-  values_by : (v : Verdict) (h : Header) → reading_values (reading_by v h) ≡ given v (numbers_of h)
-  values_by verdict.Accepted h = refl
-  values_by (verdict.Refused c) h = refl
+  values_by : (v : Verdict) (h : Header) → (values numbers_of) (answered v h) ≡ given v (numbers_of h)
+  values_by (Ok _) h = refl
+  values_by (Err c) h = refl
 
   -- by the verdict of a fate
-  promised : (table₀ table₁ : List ℕ) (answer : Reading) (f : Fate s) (v : Verdict) → sheet_verdict s (length table₀) f ≡ v
-      → answer ≡ reading_by v (header s) → table₁ ≡ written v (table_of s f) table₀ → Reads s table₀ table₁ answer
+  promised : (table₀ table₁ : List ℕ) (answer : Result Header Cause) (f : Fate s) (v : Verdict) → sheet_verdict s (length table₀) f ≡ v
+      → answer ≡ answered v (header s) → table₁ ≡ written v (table_of s f) table₀ → Reads s table₀ table₁ answer
   promised table₀ table₁ answer f v e a t = record {
     fate = f;
     answer_is = rw e a;
@@ -118,8 +117,8 @@ module _ (s : List ℕ) where
     table_is = rw e t;
   }
 
-  promised_bit : (b : ℕ) (table₀ table₁ : List ℕ) (answer : Reading) (f : Fate s) (v : Verdict) → bit_verdict s b (length table₀) f ≡ v
-      → answer ≡ reading_by v (header s) → table₁ ≡ written v (bit_table s f b) table₀ → ReadsBit s b table₀ table₁ answer
+  promised_bit : (b : ℕ) (table₀ table₁ : List ℕ) (answer : Result Header Cause) (f : Fate s) (v : Verdict) → bit_verdict s b (length table₀) f ≡ v
+      → answer ≡ answered v (header s) → table₁ ≡ written v (bit_table s f b) table₀ → ReadsBit s b table₀ table₁ answer
   promised_bit b table₀ table₁ answer f v e a t = record {
     fate = f;
     answer_is = rw e a;
@@ -129,25 +128,25 @@ module _ (s : List ℕ) where
   }
 
   -- refused by 1 to 8, whatever becomes of the chain
-  pub refused_opening : (table : List ℕ) (c : Cause) → verdict_to_8 s (length table) ≡ verdict.Refused c → Reads s table table (reading.Refused c)
+  pub refused_opening : (table : List ℕ) (c : Cause) → verdict_to_8 s (length table) ≡ Err c → Reads s table table (Err c)
   unfolding sheet_verdict
-  refused_opening table c e = promised table table (reading.Refused c) (fate s) (verdict.Refused c) (rw e) refl refl
+  refused_opening table c e = promised table table (Err c) (fate s) (Err c) (rw e) refl refl
 
-  pub refused_bit : (b : ℕ) (table : List ℕ) (c : Cause) → bit_to_8 s b (length table) ≡ verdict.Refused c
-      → ReadsBit s b table table (reading.Refused c)
+  pub refused_bit : (b : ℕ) (table : List ℕ) (c : Cause) → bit_to_8 s b (length table) ≡ Err c
+      → ReadsBit s b table table (Err c)
   unfolding bit_verdict
-  refused_bit b table c e = promised_bit b table table (reading.Refused c) (fate s) (verdict.Refused c) (rw e) refl refl
+  refused_bit b table c e = promised_bit b table table (Err c) (fate s) (Err c) (rw e) refl refl
 
   -- ---- of a part of the tables
 
   -- refused by the chain
-  pub refused_later : (start : ℕ) (table : List ℕ) (f : Fate s) (c : Cause) → chain_verdict s f ≡ verdict.Refused c
-      → ReadsPart s start table table (reading.Refused c)
+  pub refused_later : (start : ℕ) (table : List ℕ) (f : Fate s) (c : Cause) → chain_verdict s f ≡ Err c
+      → ReadsPart s start table table (Err c)
   refused_later start table f c e = record { fate = f; answer_is = rw e; table_is = rw e }
 
   -- read by a walk that kept all, and filled with it
   pub whole_read : (start : ℕ) (table table₁ places ballots : List ℕ) (m : ℕ) (h : Header) → start + length table ≤ tables_wanted s → Whole s m places ballots
-      → h ≡ header s → table₁ ≡ laid places ballots start (length table) m → ReadsPart s start table table₁ (reading.Accepted h)
+      → h ≡ header s → table₁ ≡ laid places ballots start (length table) m → ReadsPart s start table table₁ (Ok h)
   whole_read start table table₁ places ballots m h o w q e = record {
     fate = ends m w.chain;
     answer_is = rw (w.judged, q);
@@ -162,7 +161,7 @@ module _ (s : List ℕ) where
   all_written size table (ends m d) e =
       ap (λ (x : List ℕ). written (chain_verdict s (ends m d)) x table) (take_all size (table_of s (ends m d)) (omega (arith, e, filled_length s m)))
 
-  pub all_read : (table table₁ : List ℕ) (answer : Reading) → verdict_to_8 s (length table) ≡ verdict.Accepted → ReadsPart s 0 table table₁ answer
+  pub all_read : (table table₁ : List ℕ) (answer : Result Header Cause) → verdict_to_8 s (length table) ≡ no_cause → ReadsPart s 0 table table₁ answer
       → Reads s table table₁ answer
   unfolding sheet_verdict
   all_read table table₁ answer o p =
@@ -170,7 +169,7 @@ module _ (s : List ℕ) where
       (p.table_is ∙ all_written (length table) table p.fate (opening_length (length table) o))
 
   -- and the part that is bit b's
-  pub bit_read : (b : ℕ) (table table₁ : List ℕ) (answer : Reading) → bit_to_8 s b (length table) ≡ verdict.Accepted
+  pub bit_read : (b : ℕ) (table table₁ : List ℕ) (answer : Result Header Cause) → bit_to_8 s b (length table) ≡ no_cause
       → ReadsPart s (b * length table) table table₁ answer → ReadsBit s b table table₁ answer
   unfolding bit_verdict part_of
   bit_read b table table₁ answer o p =

@@ -14,9 +14,8 @@ use Rattle.line.proofs.CountLaws.{same_or_not}
 use Rattle.line.specs.Width.{largest_tables}
 use Rattle.line.specs.Count.{count}
 use Rattle.line.proofs.MarksLaws.{marked_above}
-use Rattle.refusal.specs.Cause.{refused_if, ◌or_else◌}
+use Rattle.refusal.specs.Cause.{refused_if, ◌or_else◌, no_cause}
 use Rattle.refusal.specs.declared.cause.Cause.TheVariants.{RecordForm, Duplicate}
-use Rattle.refusal.specs.declared.cause.Verdict.TheVariants.{Accepted}
 use Rattle.refusal.proofs.VerdictLaws.{refused_true, both_accepted}
 use Rattle.layout.specs.Layout.{header}
 use Rattle.layout.specs.Chain.{reached}
@@ -64,7 +63,7 @@ module _ (s : List ℕ) where
       not_same false e n = refl
 
   -- the place of a record with index j is seen exactly if an earlier one has the same round, from, to and bit
-  pub seen_tells : (m j : ℕ) → records_verdict s m ≡ Accepted → InPlace s j → SoundHeader (header s)
+  pub seen_tells : (m j : ℕ) → records_verdict s m ≡ no_cause → InPlace s j → SoundHeader (header s)
       → is_seen (seen s m) (place_of s j) ≡ ltb 0 (count m (λ a. same_place s (reached s a) j))
   unfolding seen count records_verdict
   seen_tells zero j v p sound = rw (unseen_none (place_of s j) (place_in_largest s j p sound))
@@ -73,7 +72,7 @@ module _ (s : List ℕ) where
       seen_step m j (place_in_largest s j p sound) (place_tells s (reached s m) j (judged_place s m here) p) (seen_tells m j before p sound)
 
   -- so the record at position m is judged by the places seen as it is by the chain
-  pub judged_by_seen : (m : ℕ) → records_verdict s m ≡ Accepted → SoundHeader (header s)
+  pub judged_by_seen : (m : ℕ) → records_verdict s m ≡ no_cause → SoundHeader (header s)
       → record_form s (reached s m) or_else unmarked_sender s (reached s m) or_else looked (seen s m) (place_of s (reached s m)) ≡ record_verdict s m
   unfolding record_verdict record_form looked duplicate taken_before
   judged_by_seen m v sound = go (misplaced s (reached s m)) refl

@@ -1,5 +1,7 @@
 -- Laws of the walk: what holds along it, one record more, and what it tells at its end. Assumes nothing.
 use Prim.Native.Nat.{ℕ, zero, suc, ◌+◌, ◌-◌, ◌≤◌, ◌<◌}
+use Rattle.std.specs.declared.result.Result.{Result}
+use Rattle.std.specs.declared.result.Result.TheVariants.{Ok, Err}
 use mathlib.Core.Path.{◌≡◌, refl, sym, ap, ◌∙◌}
 use mathlib.Core.Logic.{◌≢◌, ◌⊎◌, ⊎_elim}
 use mathlib.Core.Bool.{Bool, true, false}
@@ -17,11 +19,10 @@ use Rattle.line.specs.Line.{rounds}
 use Rattle.line.specs.Width.{largest_tables}
 use Rattle.line.proofs.LineLaws.{place_below}
 use Rattle.line.proofs.CountLaws.{le_or_lt}
-use Rattle.refusal.specs.Cause.{◌or_else◌}
+use Rattle.refusal.specs.Cause.{◌or_else◌, no_cause}
 use Rattle.refusal.specs.declared.cause.Cause.{Cause}
 use Rattle.refusal.specs.declared.cause.Cause.TheVariants.{ChainLeaves, ChainRepeats}
-use Rattle.refusal.specs.declared.cause.Verdict.{Verdict}
-use Rattle.refusal.specs.declared.cause.Verdict.TheVariants.{Accepted, Refused}
+use Rattle.refusal.specs.Cause.{Verdict}
 use Rattle.layout.specs.Layout.{header, tables_wanted, records, ballot, next, first}
 use Rattle.layout.specs.Chain.{Record, reached, Fate, leaves, again, ends}
 use Rattle.layout.specs.Numbers.{record_at}
@@ -33,8 +34,6 @@ use Rattle.judgement.proofs.RangeLaws.{InNumbers, judged_by_numbers}
 use Rattle.reader.specs.Reading.{place_of, filled}
 use Rattle.reader.specs.Loops as loops
 use Rattle.reader.specs.Loops.{Lined, place_by, record_by, Taken, walked_by, Hit, Kept, Whole, Told, Fated, Inside, put_at, laid}
-use Rattle.reader.specs.declared.fate.Walked.{Walked}
-use Rattle.reader.specs.declared.fate.Walked.TheVariants as walked
 use Rattle.reader.proofs.PlaceLaws.{place_inside}
 use Rattle.reader.proofs.TableLaws.{judged, judged_place}
 use Rattle.reader.proofs.SeenLaws.{judged_by_seen}
@@ -42,8 +41,8 @@ use Rattle.reader.proofs.SeenLaws.{judged_by_seen}
 -- ---- verdicts
 
 or_else_joins : (a b c : Verdict) → (a or_else b) or_else c ≡ a or_else b or_else c
-or_else_joins Accepted b c = refl
-or_else_joins (Refused d) b c = refl
+or_else_joins (Ok _) b c = refl
+or_else_joins (Err d) b c = refl
 
 -- ---- what is handed on
 
@@ -136,22 +135,22 @@ module _ (s : List ℕ) where
 
   module _ (n last bits marks : ℕ) (line : Lined s n last bits marks) (a i : ℕ) (r : numbers.Record) (q : i ≡ reached s a) (here : Record s i) (is : r ≡ record_at s i) where
     -- the record at position a judged by its numbers and the places seen
-    pub record_is : (places : List ℕ) → places ≡ loops.seen s a → records_verdict s a ≡ Accepted → record_by n last bits marks r places ≡ record_verdict s a
+    pub record_is : (places : List ℕ) → places ≡ loops.seen s a → records_verdict s a ≡ no_cause → record_by n last bits marks r places ≡ record_verdict s a
     unfolding record_by
     record_is places e v =
         rw (is, e, line.n_is, line.last_is, line.bits_are, line.marks_are, judged_by_numbers s i here, place_same i here, or_else_joins, q) (judged_by_seen s a v line.sound)
 
   -- one verdict more
-  verdict_pass : (a : ℕ) → records_verdict s a ≡ Accepted → record_verdict s a ≡ Accepted → records_verdict s (a + 1) ≡ Accepted
+  verdict_pass : (a : ℕ) → records_verdict s a ≡ no_cause → record_verdict s a ≡ no_cause → records_verdict s (a + 1) ≡ no_cause
   unfolding records_verdict
   verdict_pass a v w = rw (add-one, v, w)
 
-  verdict_hit : (a : ℕ) (c : Cause) → records_verdict s a ≡ Accepted → record_verdict s a ≡ Refused c → records_verdict s (a + 1) ≡ Refused c
+  verdict_hit : (a : ℕ) (c : Cause) → records_verdict s a ≡ no_cause → record_verdict s a ≡ Err c → records_verdict s (a + 1) ≡ Err c
   unfolding records_verdict
   verdict_hit a c v w = rw (add-one, v, w)
 
   -- the first hit stays
-  verdict_stays : (a : ℕ) (c : Cause) → records_verdict s a ≡ Refused c → records_verdict s (a + 1) ≡ Refused c
+  verdict_stays : (a : ℕ) (c : Cause) → records_verdict s a ≡ Err c → records_verdict s (a + 1) ≡ Err c
   unfolding records_verdict
   verdict_stays a c v = rw (add-one, v)
 
@@ -161,7 +160,7 @@ module _ (s : List ℕ) where
   pub record Going (m i : ℕ) (seen places ballots : List ℕ) : Type 0 where
     pub at : i ≡ reached s m
     pub chained : Chained s m
-    pub judged_all : records_verdict s m ≡ Accepted
+    pub judged_all : records_verdict s m ≡ no_cause
     pub seen_is : seen ≡ loops.seen s m
     pub kept : Kept s m places ballots
     pub places_length : length places ≡ 4096
@@ -212,7 +211,7 @@ module _ (s : List ℕ) where
       verdict_here = sym (record_is n last bits marks line m i r g.at here is seen₀ g.seen_is g.judged_all) ∙ sym t.verdict_is
 
       -- one record more that passes
-      pub going_turn : v ≡ Accepted → Going (m + 1) r.next seen₁ places₁ ballots₁
+      pub going_turn : v ≡ no_cause → Going (m + 1) r.next seen₁ places₁ ballots₁
       unfolding loops.seen
       going_turn e =
           let p : m < length places₀ = omega (arith, g.places_length, line.most) in
@@ -228,7 +227,7 @@ module _ (s : List ℕ) where
           }
 
       -- and the first that does not
-      pub going_hit : (c : Cause) → v ≡ Refused c → Hit s (m + 1) r.next c
+      pub going_hit : (c : Cause) → v ≡ Err c → Hit s (m + 1) r.next c
       going_hit c e = record {
         position = omega arith;
         at = next_here;
@@ -248,8 +247,8 @@ module _ (s : List ℕ) where
   -- ---- at its end
 
   -- where no record stands, or after k records, the index tells the chain's fate
-  fate_there : (m i : ℕ) → i ≡ reached s m → Over s i ⊎ (m ≡ records s) → (P : Walked → Type 0)
-      → ((f : Fate s) (c : Cause) → chain_verdict s f ≡ Refused c → P (walked.Refused c)) → (w : Walked) → (i ≡ 0 → P w) → P (walked_by (records s) i w)
+  fate_there : (m i : ℕ) → i ≡ reached s m → Over s i ⊎ (m ≡ records s) → (P : Result ℕ Cause → Type 0)
+      → ((f : Fate s) (c : Cause) → chain_verdict s f ≡ Err c → P (Err c)) → (w : Result ℕ Cause) → (i ≡ 0 → P w) → P (walked_by (records s) i w)
   unfolding walked_by
   fate_there m i at last P fated w ended =
       ⊎_elim
@@ -265,9 +264,9 @@ module _ (s : List ℕ) where
       (le_or_lt i (records s))
 
   pub going_told : (m i : ℕ) (seen places ballots : List ℕ) → Going m i seen places ballots → m ≤ records s → records s ≤ 4096
-      → Over s i ⊎ (m ≡ records s) → Told s places ballots (walked_by (records s) i (walked.Accepted m))
+      → Over s i ⊎ (m ≡ records s) → Told s places ballots (walked_by (records s) i (Ok m))
   going_told m i seen places ballots g h most last =
-      fate_there m i g.at last (Told s places ballots) (λ f c e. (f, e)) (walked.Accepted m)
+      fate_there m i g.at last (Told s places ballots) (λ f c e. (f, e)) (Ok m)
       (λ z. record {
         chain = record { chained = g.chained; zero_there = sym g.at ∙ z };
         most = omega arith;
@@ -277,15 +276,15 @@ module _ (s : List ℕ) where
         ballots_length = g.ballots_length;
       })
 
-  pub hit_told : (m i : ℕ) (c : Cause) → Hit s m i c → Over s i ⊎ (m ≡ records s) → Fated s (walked_by (records s) i (walked.Refused c))
+  pub hit_told : (m i : ℕ) (c : Cause) → Hit s m i c → Over s i ⊎ (m ≡ records s) → Fated s (walked_by (records s) i (Err c))
   hit_told m i c h last =
-      fate_there m i h.at last (Fated s) (λ f d e. (f, e)) (walked.Refused c)
+      fate_there m i h.at last (Fated s) (λ f d e. (f, e)) (Err c)
       (λ z. (ends m (record { chained = h.chained; zero_there = sym h.at ∙ z }), h.judged))
 
   -- what it tells after a hit it tells of the whole walk
-  pub fated_told : (places ballots : List ℕ) (w : Walked) → Fated s w → Told s places ballots w
-  fated_told places ballots (walked.Accepted m) f = absurd f
-  fated_told places ballots (walked.Refused c) f = f
+  pub fated_told : (places ballots : List ℕ) (w : Result ℕ Cause) → Fated s w → Told s places ballots w
+  fated_told places ballots (Ok m) f = absurd f
+  fated_told places ballots (Err c) f = f
 
   -- ---- the table
 

@@ -1,16 +1,17 @@
 -- What the private functions of the reader do: for their contracts, and no part of what the public call promises.
 use Rattle.std.specs.Prelude.{ℕ, zero, suc, ◌+◌, ◌-◌, ◌*◌, ◌/◌, ◌%◌, ◌^◌, ◌≤◌, ◌<◌, ◌≡◌, Bool, List, leb, ltb, length, get_or, take, drop, set, replicate, if◌then◌else◌}
+use Rattle.std.specs.declared.result.Result.{Result}
+use Rattle.std.specs.declared.result.Result.TheVariants.{Ok, Err}
 use Rattle.std.specs.Int.Bits.{bit_or}
 use Rattle.line.specs.Line.{from_0, rounds, place}
 use Rattle.line.specs.Width as width
 use Rattle.line.specs.Marks.{marked}
 use Rattle.line.specs.Ballot.{silence}
-use Rattle.refusal.specs.Cause.{refused_if, ◌or_else◌, written}
+use Rattle.refusal.specs.Cause.{refused_if, ◌or_else◌, written, no_cause, answered}
 use Rattle.header.specs.Header.{SoundNumber}
 use Rattle.refusal.specs.declared.cause.Cause.{Cause}
 use Rattle.refusal.specs.declared.cause.Cause.TheVariants.{ChainLeaves, ChainRepeats, Duplicate}
-use Rattle.refusal.specs.declared.cause.Verdict.{Verdict}
-use Rattle.refusal.specs.declared.cause.Verdict.TheVariants.{Accepted, Refused}
+use Rattle.refusal.specs.Cause.{Verdict}
 use Rattle.layout.specs.declared.Header.{Header}
 use Rattle.layout.specs.declared.Record.{Record}
 use Rattle.layout.specs.Layout.{header, tables_wanted, records, most_records, ballot}
@@ -18,10 +19,7 @@ use Rattle.layout.specs.Chain as Chain
 use Rattle.layout.specs.Chain.{reached, Ends, Fate}
 use Rattle.judgement.specs.Judgement.{verdict_to_6, records_verdict, chain_verdict}
 use Rattle.judgement.specs.Numbers.{numbers_verdict}
-use Rattle.reader.specs.Reading.{place_of, table_of, reading_by}
-use Rattle.reader.specs.declared.Reading.{Reading}
-use Rattle.reader.specs.declared.fate.Walked.{Walked}
-use Rattle.reader.specs.declared.fate.Walked.TheVariants as walked
+use Rattle.reader.specs.Reading.{place_of, table_of}
 
 -- a header that causes 15 and 2 to 6 let through
 abbrev pub SoundHeader : Header → Type 0
@@ -38,7 +36,7 @@ pub record Lined (s : List ℕ) (n last bits marks : ℕ) : Type 0 where
 
 -- such a sheet with its header, and room for all places and ballots
 pub record Walkable (s : List ℕ) (h : Header) (places ballots : List ℕ) : Type 0 where
-  pub judged : verdict_to_6 s ≡ Accepted
+  pub judged : verdict_to_6 s ≡ no_cause
   pub header_is : h ≡ header s
   pub places_length : length places ≡ 4096
   pub ballots_length : length ballots ≡ 4096
@@ -86,22 +84,22 @@ pub record Roomy (n last bits m : ℕ) (seen places ballots : List ℕ) : Type 0
 -- a record judged at position m: one that passes is seen, and its place and ballot are kept
 pub record Taken (n last bits marks : ℕ) (r : Record) (m : ℕ) (seen₀ places₀ ballots₀ seen₁ places₁ ballots₁ : List ℕ) (v : Verdict) : Type 0 where
   pub verdict_is : v ≡ record_by n last bits marks r seen₀
-  pub seen_is : v ≡ Accepted → seen₁ ≡ with_place seen₀ (place_by n last r)
-  pub places_are : v ≡ Accepted → places₁ ≡ set places₀ m (place_by n last r)
-  pub ballots_are : v ≡ Accepted → ballots₁ ≡ set ballots₀ m r.ballot
+  pub seen_is : v ≡ no_cause → seen₁ ≡ with_place seen₀ (place_by n last r)
+  pub places_are : v ≡ no_cause → places₁ ≡ set places₀ m (place_by n last r)
+  pub ballots_are : v ≡ no_cause → ballots₁ ≡ set ballots₀ m r.ballot
 
 -- ---- the walk
 
 -- what the index i tells, where the walk stops, if a chain that ends tells w
-unfoldable pub walked_by : (k i : ℕ) → Walked → Walked
-walked_by k i w = if ltb k i then walked.Refused ChainLeaves else (if ltb 0 i then walked.Refused ChainRepeats else w)
+unfoldable pub walked_by : (k i : ℕ) → Result ℕ Cause → Result ℕ Cause
+walked_by k i w = if ltb k i then Err ChainLeaves else (if ltb 0 i then Err ChainRepeats else w)
 
 -- i is the index at position m of the chain, and of the records before it the first hit is c
 pub record Hit (s : List ℕ) (m i : ℕ) (c : Cause) : Type 0 where
   pub position : m ≤ records s
   pub at : i ≡ reached s m
   pub chained : (a : ℕ) → a < m → Chain.Record s (reached s a)
-  pub judged : records_verdict s m ≡ Refused c
+  pub judged : records_verdict s m ≡ Err c
 
 -- the places and ballots of the first m records of the chain are kept
 abbrev pub Kept : List ℕ → ℕ → List ℕ → List ℕ → Type 0
@@ -112,32 +110,32 @@ Kept s m places ballots =
 pub record Whole (s : List ℕ) (m : ℕ) (places ballots : List ℕ) : Type 0 where
   pub chain : Ends s m
   pub most : m ≤ most_records
-  pub judged : records_verdict s m ≡ Accepted
+  pub judged : records_verdict s m ≡ no_cause
   pub kept : Kept s m places ballots
   pub places_length : length places ≡ 4096
   pub ballots_length : length ballots ≡ 4096
 
 -- what the walk tells holds
-abbrev pub Told : (s places ballots : List ℕ) → Walked → Type 0
-Told s places ballots (walked.Accepted m) = Whole s m places ballots
-Told s places ballots (walked.Refused c) = (f : Fate s) × (chain_verdict s f ≡ Refused c)
+abbrev pub Told : (s places ballots : List ℕ) → Result ℕ Cause → Type 0
+Told s places ballots (Ok m) = Whole s m places ballots
+Told s places ballots (Err c) = (f : Fate s) × (chain_verdict s f ≡ Err c)
 
 -- and what it tells after a hit
-abbrev pub Fated : List ℕ → Walked → Type 0
-Fated s (walked.Accepted m) = ⊥
-Fated s (walked.Refused c) = (f : Fate s) × (chain_verdict s f ≡ Refused c)
+abbrev pub Fated : List ℕ → Result ℕ Cause → Type 0
+Fated s (Ok m) = ⊥
+Fated s (Err c) = (f : Fate s) × (chain_verdict s f ≡ Err c)
 
 -- ---- the lent table: the part of all bits' tables from the place `start` on
 
 -- a sheet that causes 1, 15 and 2 to 6 let through, and such a part of this length
 pub record Opened (s : List ℕ) (start size : ℕ) : Type 0 where
-  pub judged : verdict_to_6 s ≡ Accepted
+  pub judged : verdict_to_6 s ≡ no_cause
   pub within : start + size ≤ tables_wanted s
 
 -- what reading it comes to, by the chain's verdict
-pub record ReadsPart (s : List ℕ) (start : ℕ) (table₀ table₁ : List ℕ) (answer : Reading) : Type 0 where
+pub record ReadsPart (s : List ℕ) (start : ℕ) (table₀ table₁ : List ℕ) (answer : Result Header Cause) : Type 0 where
   pub fate : Fate s
-  pub answer_is : answer ≡ reading_by (chain_verdict s fate) (header s)
+  pub answer_is : answer ≡ answered (chain_verdict s fate) (header s)
   pub table_is : table₁ ≡ written (chain_verdict s fate) (take (length table₀) (drop start (table_of s fate))) table₀
 
 -- m places and ballots are kept

@@ -1,14 +1,14 @@
 -- What the reader fills and answers, and what it promises.
 use Rattle.std.specs.Prelude.{ℕ, zero, suc, ◌+◌, ◌*◌, ◌≡◌, List, [], ◌∷◌, length, set, replicate}
+use Rattle.refusal.specs.declared.cause.Cause.{Cause}
+use Rattle.std.specs.declared.result.Result.{Result}
+use Rattle.std.specs.declared.result.Result.TheVariants.{Ok, Err}
 use Rattle.line.specs.Line.{from_0, place}
 use Rattle.line.specs.Width.{part_of}
 use Rattle.line.specs.Ballot.{silence}
-use Rattle.refusal.specs.Cause.{number, code, written, given}
-use Rattle.refusal.specs.declared.cause.Verdict.{Verdict}
-use Rattle.refusal.specs.declared.cause.Verdict.TheVariants as verdict
+use Rattle.refusal.specs.Cause.{number, code, written, given, values, answered}
+use Rattle.refusal.specs.Cause.{Verdict}
 use Rattle.layout.specs.declared.Header.{Header}
-use Rattle.reader.specs.declared.Reading.{Reading}
-use Rattle.reader.specs.declared.Reading.TheVariants as reading
 use Rattle.layout.specs.Layout.{header, table_wanted, tables_wanted, round, from, to, ballot, bit}
 use Rattle.layout.specs.Chain.{reached, Fate, leaves, again, ends}
 use Rattle.judgement.specs.Judgement.{sheet_verdict, bit_verdict}
@@ -36,37 +36,25 @@ bit_table s f b = part_of (table_wanted s) (table_of s f) b
 
 -- ---- the answer: for each case of the enum, document 01's number, 0 where nothing is refused, and its values
 
-abbrev pub reading_number : Reading → ℕ
-reading_number (reading.Accepted h) = 0
-reading_number (reading.Refused c) = number c
-
 -- n, t, T, sender, value, w, marks
 abbrev pub numbers_of : Header → List ℕ
 numbers_of h = h.line.n ∷ h.line.t ∷ h.line.upper ∷ h.sender ∷ h.value ∷ h.w ∷ h.marks ∷ []
 
-abbrev pub reading_values : Reading → List ℕ
-reading_values (reading.Accepted h) = numbers_of h
-reading_values (reading.Refused c) = []
-
-abbrev pub reading_by : Verdict → Header → Reading
-reading_by verdict.Accepted h = reading.Accepted h
-reading_by (verdict.Refused c) h = reading.Refused c
-
 -- The promise, for every sheet and every buffer. `table₀` is the lent buffer for the tables of all bits at entry, `table₁` at exit.
-pub record Reads (s table₀ table₁ : List ℕ) (answer : Reading) : Type 0 where
+pub record Reads (s table₀ table₁ : List ℕ) (answer : Result Header Cause) : Type 0 where
   -- what becomes of the sheet's chain: whatever shows it, verdict and table are the same (`OneFate` of Theorems.antt)
   pub fate : Fate s
   -- the header's numbers, or the refusal
-  pub answer_is : answer ≡ reading_by (sheet_verdict s (length table₀) fate) (header s)
-  pub number_is : reading_number answer ≡ code (sheet_verdict s (length table₀) fate)
-  pub values_are : reading_values answer ≡ given (sheet_verdict s (length table₀) fate) (numbers_of (header s))
+  pub answer_is : answer ≡ answered (sheet_verdict s (length table₀) fate) (header s)
+  pub number_is : code answer ≡ code (sheet_verdict s (length table₀) fate)
+  pub values_are : values numbers_of answer ≡ given (sheet_verdict s (length table₀) fate) (numbers_of (header s))
   -- every byte of the table at exit: the sheet's, or as it was
   pub table_is : table₁ ≡ written (sheet_verdict s (length table₀) fate) (table_of s fate) table₀
 
 -- and where one bit is read, into a buffer for one table
-pub record ReadsBit (s : List ℕ) (b : ℕ) (table₀ table₁ : List ℕ) (answer : Reading) : Type 0 where
+pub record ReadsBit (s : List ℕ) (b : ℕ) (table₀ table₁ : List ℕ) (answer : Result Header Cause) : Type 0 where
   pub fate : Fate s
-  pub answer_is : answer ≡ reading_by (bit_verdict s b (length table₀) fate) (header s)
-  pub number_is : reading_number answer ≡ code (bit_verdict s b (length table₀) fate)
-  pub values_are : reading_values answer ≡ given (bit_verdict s b (length table₀) fate) (numbers_of (header s))
+  pub answer_is : answer ≡ answered (bit_verdict s b (length table₀) fate) (header s)
+  pub number_is : code answer ≡ code (bit_verdict s b (length table₀) fate)
+  pub values_are : values numbers_of answer ≡ given (bit_verdict s b (length table₀) fate) (numbers_of (header s))
   pub table_is : table₁ ≡ written (bit_verdict s b (length table₀) fate) (bit_table s fate b) table₀

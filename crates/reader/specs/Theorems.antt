@@ -1,9 +1,9 @@
 -- What is shown of the definitions. Each statement has a name here, and proofs/Theorems.antt has the law that proves it.
 use Rattle.std.specs.Prelude.{ℕ, ◌+◌, ◌*◌, ◌≤◌, ◌<◌, ◌≡◌, false, ◌≢◌, List, get_or}
+use Rattle.refusal.specs.Cause.{no_cause}
 use Rattle.line.specs.Line.{rounds, place}
 use Rattle.line.specs.Width.{bits}
 use Rattle.line.specs.Marks.{marked}
-use Rattle.refusal.specs.declared.cause.Verdict.TheVariants.{Accepted}
 use Rattle.layout.specs.Layout.{header, table_wanted, tables_wanted, ballot}
 use Rattle.layout.specs.Chain.{Record, reached, Fate}
 use Rattle.layout.specs.Outside.{SameChain}
@@ -29,20 +29,20 @@ OutsideIgnored =
 -- the ballot of each record of the chain stands in its place
 abbrev pub BallotsStand : Type 0
 BallotsStand =
-    (s : List ℕ) (l : ℕ) (f : Fate s) → sheet_verdict s l f ≡ Accepted
+    (s : List ℕ) (l : ℕ) (f : Fate s) → sheet_verdict s l f ≡ no_cause
     → (a : ℕ) → Record s (reached s a) → get_or (table_of s f) (place_of s (reached s a)) 0 ≡ ballot s (reached s a)
 
 -- 255 stands in every other place
 abbrev pub ElseSilence : Type 0
 ElseSilence =
-    (s : List ℕ) (l : ℕ) (f : Fate s) → sheet_verdict s l f ≡ Accepted
+    (s : List ℕ) (l : ℕ) (f : Fate s) → sheet_verdict s l f ≡ no_cause
     → (p : ℕ) → p < tables_wanted s
     → ((a : ℕ) → Record s (reached s a) → place_of s (reached s a) ≢ p) → get_or (table_of s f) p 0 ≡ 255
 
 -- and so at every sender that is not marked, in each bit's table
 abbrev pub UnmarkedSilent : Type 0
 UnmarkedSilent =
-    (s : List ℕ) (l : ℕ) (f : Fate s) → sheet_verdict s l f ≡ Accepted
+    (s : List ℕ) (l : ℕ) (f : Fate s) → sheet_verdict s l f ≡ no_cause
     → (b r i j : ℕ) → b < bits (header s).w → 1 ≤ r → r ≤ rounds (header s).line.t → i < (header s).line.n → j < (header s).line.n
     → marked (header s).marks i ≡ false → get_or (table_of s f) (b * table_wanted s + place (header s).line.n r i j) 0 ≡ 255
 

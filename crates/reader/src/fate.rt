@@ -5,11 +5,7 @@ ghost use Rattle.reader.specs.Loops.{walked_by, Hit, Fated};
 use refusal::cause::Cause;
 
 // What the walk comes to: so many records, none of them refused; or a cause.
-#[derive(Clone, Copy)]
-pub(crate) enum Walked {
-    Accepted(usize),
-    Refused(Cause),
-}
+pub(crate) type Walked = Result<usize, Cause>;
 
 // What becomes of a chain by the index i at which the walk stopped, of k records: above k the chain leaves, any other than 0 was reached before, and 0 ends
 // it as is said.
@@ -17,10 +13,10 @@ pub(crate) fn told(k: usize, i: usize, ended: Walked) -> Walked
     ensures { result ≡ walked_by k i ended }
 {
     if k < i {
-        return Walked::Refused(Cause::ChainLeaves);
+        return Err(Cause::ChainLeaves);
     }
     if 0 < i {
-        return Walked::Refused(Cause::ChainRepeats);
+        return Err(Cause::ChainRepeats);
     }
     ended
 }
@@ -35,11 +31,11 @@ pub(crate) fn walk_on(sheet: &[u8], from: usize, position: usize, hit: Cause) ->
     let mut m = position;
     while m < k {
         if !layout::is_record(sheet, i) {
-            return told(k, i, Walked::Refused(hit));
+            return told(k, i, Err(hit));
         }
         let record = layout::record_at(sheet, i);
         i = record.next;
         m += 1;
     }
-    told(k, i, Walked::Refused(hit))
+    told(k, i, Err(hit))
 }

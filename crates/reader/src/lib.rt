@@ -5,63 +5,44 @@ ghost use Rattle.std.specs.Prelude.{length};
 ghost use Rattle.reader.specs.Reading.{Reads, ReadsBit};
 ghost use Rattle.reader.specs.Loops.{Opened, ReadsPart};
 
-use crate::fate::Walked;
 use layout::Header;
-use refusal::cause::{Cause, Verdict};
+use refusal::cause::Cause;
 
 mod fate;
 mod fill;
 mod seen;
 mod walk;
 
-// The answer to reading a sheet.
-#[derive(Clone, Copy)]
-pub enum Reading {
-    Accepted(Header),
-    Refused(Cause),
-}
-
 // A sheet that the causes before the chain's let through: the whole chain is walked and each of its records judged before the first byte is written. The table
 // is the part of all bits' tables that begins at the place `start`; where it is all of them, every place is in it.
-fn read_chain(sheet: &[u8], start: usize, table: &mut [u8]) -> Reading
+fn read_chain(sheet: &[u8], start: usize, table: &mut [u8]) -> Result<Header, Cause>
     requires { Opened sheet.now start (length table.old) }
     ensures { ReadsPart sheet.now start table.old table.new result }
 {
     let header = layout::header_of(sheet);
     let mut places = [0u32; walk::RECORDS];
     let mut ballots = [0u8; walk::RECORDS];
-    let walked = walk::walk(sheet, header, &mut places, &mut ballots);
-    match walked {
-        Walked::Accepted(m) => {
-            if table.len() == layout::tables_len(sheet) {
-                fill::fill(&places, &ballots, m, table);
-            } else {
-                fill::fill_part(&places, &ballots, m, start, table);
-            }
-            Reading::Accepted(header)
-        }
-        Walked::Refused(c) => Reading::Refused(c),
+    let m = walk::walk(sheet, header, &mut places, &mut ballots)?;
+    if table.len() == layout::tables_len(sheet) {
+        fill::fill(&places, &ballots, m, table);
+    } else {
+        fill::fill_part(&places, &ballots, m, start, table);
     }
+    Ok(header)
 }
 
 // Reads a run sheet into the run tables of all bits.
-pub fn read(sheet: &[u8], table: &mut [u8]) -> Reading
+pub fn read(sheet: &[u8], table: &mut [u8]) -> Result<Header, Cause>
     ensures { Reads sheet.now table.old table.new result }
 {
-    let verdict = judgement::to_8(sheet, table.len());
-    match verdict {
-        Verdict::Accepted => read_chain(sheet, 0, table),
-        Verdict::Refused(c) => Reading::Refused(c),
-    }
+    judgement::to_8(sheet, table.len())?;
+    read_chain(sheet, 0, table)
 }
 
 // Reads one bit's run table of a run sheet, all of which is judged.
-pub fn read_bit(sheet: &[u8], b: u8, table: &mut [u8]) -> Reading
+pub fn read_bit(sheet: &[u8], b: u8, table: &mut [u8]) -> Result<Header, Cause>
     ensures { ReadsBit sheet.now b table.old table.new result }
 {
-    let verdict = judgement::bit_to_8(sheet, b, table.len());
-    match verdict {
-        Verdict::Accepted => read_chain(sheet, (b as usize) * table.len(), table),
-        Verdict::Refused(c) => Reading::Refused(c),
-    }
+    judgement::bit_to_8(sheet, b, table.len())?;
+    read_chain(sheet, (b as usize) * table.len(), table)
 }

@@ -17,8 +17,8 @@ pub(crate) fn look(seen: &mut [u32; WORDS], p: usize) -> Verdict
     let word = seen[p / 32];
     let bit = (p % 32) as u8;
     if marks::is_marked(word, bit) {
-        return Verdict::Refused(Cause::Duplicate);
+        return Err(Cause::Duplicate);
     }
     seen[p / 32] = word | 1u32 << bit;
-    Verdict::Accepted
+    Ok(())
 }

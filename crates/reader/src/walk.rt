@@ -36,10 +36,7 @@ fn judge(
     requires { Roomy n last bits m seen.old places.old ballots.old }
     ensures { Taken n last bits marks «record» m seen.old places.old ballots.old seen.new places.new ballots.new result }
 {
-    let verdict = judgement::numbers_verdict(n, last, bits, marks, record);
-    if let Verdict::Refused(c) = verdict {
-        return Verdict::Refused(c);
-    }
+    judgement::numbers_verdict(n, last, bits, marks, record)?;
     let p = place(
         n as usize,
         last as usize,
@@ -72,17 +69,17 @@ fn walk_chain(
     let mut m: usize = 0;
     while m < k {
         if !layout::is_record(sheet, i) {
-            return fate::told(k, i, Walked::Accepted(m));
+            return fate::told(k, i, Ok(m));
         }
         let record = layout::record_at(sheet, i);
         let verdict = judge(record, n, last, bits, marks, m, &mut seen, places, ballots);
         i = record.next;
         m += 1;
-        if let Verdict::Refused(c) = verdict {
+        if let Err(c) = verdict {
             return fate::walk_on(sheet, i, m, c);
         }
     }
-    fate::told(k, i, Walked::Accepted(m))
+    fate::told(k, i, Ok(m))
 }
 
 // The same, by the numbers of the sheet's header.

@@ -1,5 +1,6 @@
 -- The promise of one bit, from the rehearsal beside it and what is gathered. Assumes nothing.
 use Prim.Native.Nat.{ℕ, ◌≤◌, min}
+use Rattle.std.specs.declared.result.Result.TheVariants.{Err}
 use mathlib.Core.Path.{◌≡◌, refl, sym, ap, ◌∙◌}
 use mathlib.Core.Bool.{Bool, true, false}
 use mathlib.Core.Logic.{◌≢◌}
@@ -10,11 +11,10 @@ use lib.Dec.{ltb}
 use lib.ListN.{length}
 use borrow.Author.Tests.{ltb-false, ltb-true, ne_eqb, eq-eqb}
 use Rattle.line.specs.Line.{outcomes_length, table_length}
-use Rattle.refusal.specs.Cause.{◌or_else◌}
+use Rattle.refusal.specs.Cause.{◌or_else◌, no_cause}
 use Rattle.refusal.specs.declared.cause.Cause.{Cause}
 use Rattle.refusal.specs.declared.cause.Cause.TheVariants.{Length}
-use Rattle.refusal.specs.declared.cause.Verdict.{Verdict}
-use Rattle.refusal.specs.declared.cause.Verdict.TheVariants.{Accepted, Refused}
+use Rattle.refusal.specs.Cause.{Verdict}
 use Rattle.refusal.proofs.VerdictLaws.{judged, refused_true}
 use Rattle.header.specs.Header.{header_verdict, exact_length}
 use Rattle.header.proofs.HeaderLaws.{header_sound}
@@ -28,7 +28,7 @@ use Rattle.recipe.specs.Loops.{Alike}
 
 -- ---- a part within 129 bytes is judged as the outcomes are
 
-wrong_length : (wanted found : ℕ) → found ≢ wanted → exact_length wanted found ≡ Refused Length
+wrong_length : (wanted found : ℕ) → found ≢ wanted → exact_length wanted found ≡ Err Length
 unfolding exact_length
 wrong_length wanted found ne = refused_true _ (rw (ne_eqb found wanted ne))
 
@@ -50,8 +50,8 @@ module _ (R : Run) (log : List ℕ) (part below : List ℕ) (size : length part 
       go : (v : Verdict) → header_verdict R.n R.t R.T R.sender R.value R.marks ≡ v
           → (v or_else exact_length (table_length R.n R.t) (length R.table) or_else exact_length (table_length R.n R.t) (length log) or_else exact_length (outcomes_length R.n) (length part))
           ≡ (v or_else exact_length (table_length R.n R.t) (length R.table) or_else exact_length (table_length R.n R.t) (length log) or_else exact_length (outcomes_length R.n) (length below))
-      go (Refused c) e = refl
-      go Accepted e =
+      go (Err c) e = refl
+      go no_cause e =
           rw (size, length_within R.n (length below) (header_sound R.n R.t R.T R.sender R.value R.marks e).most)
 
 -- ---- the promise
@@ -62,7 +62,7 @@ module _ (b : ℕ) (R : Run) (log₀ log₁ part₀ part₁ below : List ℕ) (a
   as_outcomes = P.judged.answer_is ∙ verdict_within R log₀ part₀ below size
 
   -- accepted: the part has the outcomes of as many stations
-  pub alike : answer ≡ Accepted → Alike R.n part₁ below
+  pub alike : answer ≡ no_cause → Alike R.n part₁ below
   alike a =
       let (ready, whole) = playable R log₀ below (sym as_outcomes ∙ a) in
       record {
@@ -71,7 +71,7 @@ module _ (b : ℕ) (R : Run) (log₀ log₁ part₀ part₁ below : List ℕ) (a
         part_size = ap length P.outcomes_are ∙ rw a (outcome_bytes R).size;
       }
 
-  pub accepted : (outcomes₁ : List ℕ) → answer ≡ Accepted → outcomes₁ ≡ added b part₁ below → RehearsedBit b R log₀ log₁ below outcomes₁ answer
+  pub accepted : (outcomes₁ : List ℕ) → answer ≡ no_cause → outcomes₁ ≡ added b part₁ below → RehearsedBit b R log₀ log₁ below outcomes₁ answer
   unfolding with_bits_below
   accepted outcomes₁ a e =
       let ne : b ≢ 0 = λ q. omega arith in
@@ -82,7 +82,7 @@ module _ (b : ℕ) (R : Run) (log₀ log₁ part₀ part₁ below : List ℕ) (a
         outcomes_are = rw (a, ne_eqb b 0 ne, ← whole) e;
       }
 
-  pub refused : (c : Cause) → answer ≡ Refused c → RehearsedBit b R log₀ log₁ below below answer
+  pub refused : (c : Cause) → answer ≡ Err c → RehearsedBit b R log₀ log₁ below below answer
   refused c r = record { judged = judged as_outcomes; log_is = P.log_is; outcomes_are = rw r refl }
 
 -- bit 0: the rehearsal itself

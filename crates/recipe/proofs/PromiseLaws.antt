@@ -1,5 +1,6 @@
 -- The promise of `rehearse` from the judgement and the run: accepted, with demands 2 and 3, or refused with nothing written. Assumes nothing.
 use Prim.Native.Nat.{ℕ, ◌<◌}
+use Rattle.std.specs.declared.result.Result.TheVariants.{Err}
 use mathlib.Core.Path.{◌≡◌, refl, sym, ◌∙◌}
 use mathlib.Core.List.{List}
 use lib.ListN.{length}
@@ -7,8 +8,7 @@ use Rattle.line.specs.Line.{table_length}
 use Rattle.line.specs.Width.{bits, tables_length, part_of}
 use Rattle.line.proofs.WidthLaws.{parts_same}
 use Rattle.refusal.specs.declared.cause.Cause.{Cause}
-use Rattle.refusal.specs.declared.cause.Verdict.{Verdict}
-use Rattle.refusal.specs.declared.cause.Verdict.TheVariants.{Accepted, Refused}
+use Rattle.refusal.specs.Cause.{Verdict, no_cause}
 use Rattle.refusal.proofs.VerdictLaws.{judged, both_accepted, never}
 use Rattle.header.specs.Header.{SoundNumber}
 use Rattle.header.proofs.HeaderLaws.{length_exact, number_sound, bit_sound}
@@ -47,7 +47,7 @@ module _ (N : NumberRun) (sound : SoundNumber N.n N.t N.T N.sender N.number N.w 
 -- ---- the promise
 
 module _ (N : NumberRun) (logs₀ outcomes₀ : List ℕ) where
-  pub playable : number_verdict_of N logs₀ outcomes₀ ≡ Accepted → Playable N logs₀ outcomes₀
+  pub playable : number_verdict_of N logs₀ outcomes₀ ≡ no_cause → Playable N logs₀ outcomes₀
   unfolding number_rehearsal_verdict
   playable e =
       let (a, e₂) = both_accepted _ _ e in
@@ -60,7 +60,7 @@ module _ (N : NumberRun) (logs₀ outcomes₀ : List ℕ) where
         outcomes_whole = length_exact _ _ d;
       }
 
-  pub accepted : (answer : Verdict) (logs₁ outcomes₁ : List ℕ) → answer ≡ number_verdict_of N logs₀ outcomes₀ → answer ≡ Accepted
+  pub accepted : (answer : Verdict) (logs₁ outcomes₁ : List ℕ) → answer ≡ number_verdict_of N logs₀ outcomes₀ → answer ≡ no_cause
       → Ran N logs₁ outcomes₁ → RehearsedRecipe N logs₀ logs₁ outcomes₀ outcomes₁ answer
   accepted answer logs₁ outcomes₁ e a ran =
       let h = (playable (sym e ∙ a)).header in
@@ -72,7 +72,7 @@ module _ (N : NumberRun) (logs₀ outcomes₀ : List ℕ) where
         demand_3 = λ _. rw ran.outcomes_are (demand_3_of_numbers N h.fits h.small);
       }
 
-  pub refused : (answer : Verdict) (c : Cause) → answer ≡ number_verdict_of N logs₀ outcomes₀ → answer ≡ Refused c
+  pub refused : (answer : Verdict) (c : Cause) → answer ≡ number_verdict_of N logs₀ outcomes₀ → answer ≡ Err c
       → RehearsedRecipe N logs₀ logs₀ outcomes₀ outcomes₀ answer
   refused answer c e r =
       record {

@@ -19,8 +19,7 @@ use Rattle.line.proofs.CountLaws.{le_or_lt}
 use Rattle.line.proofs.LineLaws.{row_within}
 use Rattle.line.proofs.WritingLaws.{spliced, spliced_length, spliced_before, spliced_there}
 use Rattle.line.proofs.WidthLaws.{bits_some, bits_most, tables_bound, part_at, part_size}
-use Rattle.refusal.specs.declared.cause.Verdict.{Verdict}
-use Rattle.refusal.specs.declared.cause.Verdict.TheVariants.{Accepted}
+use Rattle.refusal.specs.Cause.{Verdict, no_cause}
 use Rattle.header.specs.Header.{SoundNumber}
 use Rattle.header.proofs.HeaderLaws.{header_accepts, length_accepts, bit_sound}
 use Rattle.broadcast.specs.Bytes.{log, pick, outcome_byte, outcome_bytes, setting}
@@ -94,13 +93,13 @@ module _ (N : NumberRun) (sound : SoundNumber N.n N.t N.T N.sender N.number N.w 
   narrow = omega (arith, more, bits_most N.w sound.narrow)
 
   -- nothing refuses it
-  bit_accepted : verdict_of (bit_run N b) part results ≡ Accepted
+  bit_accepted : verdict_of (bit_run N b) part results ≡ no_cause
   unfolding rehearsal_verdict bit_run
   bit_accepted =
       rw (header_accepts _ _ _ _ _ _ (bit_sound N.n N.t N.T N.sender N.number N.w N.marks sound b), length_accepts _ _ (part_size (table_length N.n N.t) N.tables b (bits N.w) more tables_whole), length_accepts _ _ part_whole, length_accepts _ _ results_whole)
 
   module _ (part₁ results₁ : List ℕ) (answer : Verdict) (Q : RehearsedBit b (bit_run N b) part part₁ results results₁ answer) where
-    taken : answer ≡ Accepted
+    taken : answer ≡ no_cause
     taken = Q.judged.answer_is ∙ bit_accepted
 
     bit_log : part₁ ≡ log (bit_run N b)

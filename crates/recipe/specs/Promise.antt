@@ -3,9 +3,8 @@ use Rattle.std.specs.Prelude.{ℕ, ◌^◌, ◌<◌, ◌≡◌, List, length}
 use Rattle.line.specs.Line.{from_0, table_length, outcomes_length}
 use Rattle.line.specs.Marks.{marked}
 use Rattle.line.specs.Width.{bits, tables_length, part_of}
-use Rattle.refusal.specs.Cause.{Judged, ◌or_else◌, written}
-use Rattle.refusal.specs.declared.cause.Verdict.{Verdict}
-use Rattle.refusal.specs.declared.cause.Verdict.TheVariants.{Accepted}
+use Rattle.refusal.specs.Cause.{Judged, ◌or_else◌, written, no_cause}
+use Rattle.refusal.specs.Cause.{Verdict}
 use Rattle.header.specs.Header.{number_verdict, exact_length}
 use Rattle.broadcast.specs.Bytes.{Run, log, outcomes}
 use Rattle.broadcast.specs.Guarantees.{TwoThreshold}
@@ -68,7 +67,7 @@ pub record RehearsedRecipe (N : NumberRun) (logs₀ logs₁ outcomes₀ outcomes
   -- every byte of the outcomes at exit: the run's, or as they were
   pub outcomes_are : outcomes₁ ≡ written answer (number_outcomes N) outcomes₀
   -- demand 2, of the bytes at exit and the calls of single stations, bit by bit, whatever values these are opened with
-  pub demand_2 : answer ≡ Accepted → (v : ℕ → ℕ → ℕ) → ((b : ℕ) → b < bits N.w → Values (bit_run N b) (v b)) → BitByBit N v logs₁ outcomes₁
+  pub demand_2 : answer ≡ no_cause → (v : ℕ → ℕ → ℕ) → ((b : ℕ) → b < bits N.w → Values (bit_run N b) (v b)) → BitByBit N v logs₁ outcomes₁
   -- demand 3, of the outcome bytes at exit, for every w
-  pub demand_3 : answer ≡ Accepted
+  pub demand_3 : answer ≡ no_cause
       → TwoThreshold (2 ^ bits N.w) N.n N.t N.T (marked N.marks) (from_0 N.sender) N.number (value_at outcomes₁) (flag_at outcomes₁)

@@ -1,11 +1,11 @@
 -- Demand 3 of real bonders at a recipe number: what is shown of good stations that run singly in each bit's broadcast, with no rehearsal. The statements have names
 -- here, and proofs/Theorems.antt has the laws that prove them. Station i is counted from 0: its number is i + 1.
 use Rattle.std.specs.Prelude.{ℕ, ◌^◌, ◌≤◌, ◌<◌, ◌≡◌, ◌≢◌, List}
+use Rattle.refusal.specs.Cause.{no_cause}
 use Rattle.line.specs.Line.{from_0}
 use Rattle.line.specs.Marks.{marked, faults}
 use Rattle.line.specs.Width.{bits, bit_of}
 use Rattle.header.specs.Header.{number_verdict}
-use Rattle.refusal.specs.declared.cause.Verdict.TheVariants.{Accepted}
 use Rattle.broadcast.specs.Guarantees.{Good, TwoThreshold}
 use Rattle.number.specs.Numbers.{numbers, flags}
 use Rattle.rehearsal.specs.Theorems.{Bonders}
@@ -15,7 +15,7 @@ use Rattle.rehearsal.specs.Theorems.{Bonders}
 abbrev pub Demand3OfNumberBonders : Type 0
 Demand3OfNumberBonders =
     (n t T sender number w marks : ℕ) (v : ℕ → ℕ → ℕ) (received results : ℕ → List ℕ)
-    → number_verdict n t T sender number w marks ≡ Accepted
+    → number_verdict n t T sender number w marks ≡ no_cause
     → ((b : ℕ) → b < bits w → Bonders n t T sender (bit_of number b) marks (v b) (received b) (results b))
     → TwoThreshold (2 ^ bits w) n t T (marked marks) (from_0 sender) number (numbers (bits w) results) (flags (bits w) results)
 
@@ -23,7 +23,7 @@ Demand3OfNumberBonders =
 abbrev pub UnflaggedNumberBondersAgree : Type 0
 UnflaggedNumberBondersAgree =
     (n t T sender number w marks : ℕ) (v : ℕ → ℕ → ℕ) (received results : ℕ → List ℕ)
-    → number_verdict n t T sender number w marks ≡ Accepted
+    → number_verdict n t T sender number w marks ≡ no_cause
     → ((b : ℕ) → b < bits w → Bonders n t T sender (bit_of number b) marks (v b) (received b) (results b))
     → faults n (marked marks) ≤ T → (k : ℕ) → Good n (marked marks) k → flags (bits w) results k ≢ 1
     → (i j : ℕ) → Good n (marked marks) i → Good n (marked marks) j → numbers (bits w) results i ≡ numbers (bits w) results j

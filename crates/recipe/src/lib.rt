@@ -30,11 +30,9 @@ fn bit_beside(
     requires { (1 ≤ b) × (length part.old ≡ min (length outcomes.old) 129) }
     ensures { RehearsedBit b (run_of line.n line.t line.upper sender value marks table.now) log.old log.new outcomes.old outcomes.new result }
 {
-    let verdict = rehearsal::rehearse(line, sender, value, marks, table, log, part);
-    if let Verdict::Accepted = verdict {
-        gather::add(b, line.n, part, outcomes);
-    }
-    verdict
+    rehearsal::rehearse(line, sender, value, marks, table, log, part)?;
+    gather::add(b, line.n, part, outcomes);
+    Ok(())
 }
 
 // Bit b of a number, with one table and one log: of bit 0 the outcomes are written, and of a higher one gathered with those of the bits below it, which the
@@ -83,11 +81,10 @@ fn judge(
 ) -> Verdict
     ensures { result ≡ number_rehearsal_verdict line.n line.t line.upper sender number w marks tables_len logs_len outcomes_len }
 {
-    let a = header::number_verdict(line, sender, number, w, marks);
-    let b = header::exact_length(line.tables_len(w), tables_len);
-    let c = header::exact_length(line.tables_len(w), logs_len);
-    let d = header::exact_length(line.outcomes_len(), outcomes_len);
-    a.or_else(b.or_else(c.or_else(d)))
+    header::number_verdict(line, sender, number, w, marks)?;
+    header::exact_length(line.tables_len(w), tables_len)?;
+    header::exact_length(line.tables_len(w), logs_len)?;
+    header::exact_length(line.outcomes_len(), outcomes_len)
 }
 
 // Runs the line once for each bit, and writes the logs and the outcomes.
@@ -138,7 +135,7 @@ pub fn rehearse(
 ) -> Verdict
     ensures { RehearsedRecipe (number_run_of line.n line.t line.upper sender number w marks tables.now) logs.old logs.new outcomes.old outcomes.new result }
 {
-    let verdict = judge(
+    judge(
         line,
         sender,
         number,
@@ -147,9 +144,7 @@ pub fn rehearse(
         tables.len(),
         logs.len(),
         outcomes.len(),
-    );
-    if let Verdict::Accepted = verdict {
-        run(line, sender, number, w, marks, tables, logs, outcomes);
-    }
-    verdict
+    )?;
+    run(line, sender, number, w, marks, tables, logs, outcomes);
+    Ok(())
 }

@@ -1,8 +1,8 @@
 // The causes of refusal, each with its number in documents 01 and 02.
 ghost use Rattle.std.specs.Prelude.{◌≡◌};
-ghost use Rattle.refusal.specs.Cause.{number, code, Judged, refused_if, ◌or_else◌, answer_word};
+ghost use Rattle.refusal.specs.Cause.{number, code, Judged, refused_if, answer_word};
 
-#[derive(Clone, Copy)]
+#[derive(Clone, Copy, PartialEq, Eq)]
 pub enum Cause {
     SheetForm,
     StationCount,
@@ -24,11 +24,7 @@ pub enum Cause {
 }
 
 // What judging gives: nothing against it, or a cause.
-#[derive(Clone, Copy)]
-pub enum Verdict {
-    Accepted,
-    Refused(Cause),
-}
+pub type Verdict = Result<(), Cause>;
 
 impl Cause {
     // Its number in the documents.
@@ -57,36 +53,20 @@ impl Cause {
     }
 }
 
-impl Verdict {
-    // Refused by the cause if the test holds.
-    pub fn refused_if(test: bool, cause: Cause) -> Verdict
-        ensures { Judged (refused_if test cause) result }
-    {
-        if test {
-            Verdict::Refused(cause)
-        } else {
-            Verdict::Accepted
-        }
-    }
+// Refused by the cause if the test holds.
+pub fn refused_if(test: bool, cause: Cause) -> Verdict
+    ensures { Judged (refused_if test cause) result }
+{
+    if test { Err(cause) } else { Ok(()) }
+}
 
-    // The cause's number, or 0 where there is none.
-    pub fn code(self) -> u8
-        ensures { result ≡ code self }
-    {
-        match self {
-            Verdict::Accepted => 0,
-            Verdict::Refused(c) => c.number(),
-        }
-    }
-
-    // This verdict's cause if it has one, otherwise the next verdict.
-    pub fn or_else(self, next: Verdict) -> Verdict
-        ensures { Judged (self or_else next) result }
-    {
-        match self {
-            Verdict::Accepted => next,
-            Verdict::Refused(c) => Verdict::Refused(c),
-        }
+// An answer's number, whatever it gives: the cause's, or 0 where nothing is refused.
+pub fn code<A: Copy>(answer: Result<A, Cause>) -> u8
+    ensures { result ≡ code answer }
+{
+    match answer {
+        Ok(_) => 0,
+        Err(cause) => cause.number(),
     }
 }
 

@@ -1,5 +1,6 @@
 -- Demand 2 of the calls: a station's calls on its rows of the run's log, and what is made of such calls is the run. Assumes nothing.
 use Prim.Native.Nat.{ℕ, zero, suc, ◌+◌, ◌-◌, ◌*◌, ◌/◌, ◌%◌, ◌≤◌, ◌<◌}
+use Rattle.refusal.specs.Cause.{no_cause}
 use mathlib.Core.Path.{◌≡◌, refl, sym, ◌∙◌}
 use mathlib.Core.Bool.{Bool, true, false}
 use mathlib.Core.Logic.{◌↔◌}
@@ -10,7 +11,6 @@ use lib.Seq.{ext_get_or}
 use Rattle.line.specs.Line.{from_0, rounds, table_length, outcome_size, outcomes_length, place}
 use Rattle.line.specs.Marks.{marked}
 use Rattle.header.specs.Header.{Sound}
-use Rattle.refusal.specs.declared.cause.Verdict.TheVariants.{Accepted}
 use Rattle.broadcast.specs.Station.{Result, done, at}
 use Rattle.broadcast.specs.Bytes.{Run, log, outcomes, setup}
 use Rattle.broadcast.specs.Guarantees.{Good}
@@ -36,7 +36,7 @@ SameOutcome R results i =
     × (garbled_at results i ≡ garbled_at (outcomes R) i)
 
 module _ (R : Run) (header : Sound R.n R.t R.T R.sender R.value R.marks) (v : ℕ → ℕ) (values : Values R v) where
-  accepted : (i : ℕ) → Good R.n (marked R.marks) i → opening_verdict R.n R.t R.T R.sender (i + 1) (v i) ≡ Accepted
+  accepted : (i : ℕ) → Good R.n (marked R.marks) i → opening_verdict R.n R.t R.T R.sender (i + 1) (v i) ≡ no_cause
   accepted i g =
       opening_accepts R.n R.t R.T R.sender (i + 1) (v i) R.marks
       (record {

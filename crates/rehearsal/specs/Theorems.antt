@@ -1,10 +1,10 @@
 -- Demand 3 of real bonders, by demand 2: what is shown of good stations that run singly, with no rehearsal. The statements have names here, and
 -- proofs/Theorems.antt has the laws that prove them. Station i is counted from 0: its number is i + 1.
 use Rattle.std.specs.Prelude.{ℕ, ◌≤◌, ◌≡◌, ◌≢◌, List, length}
+use Rattle.refusal.specs.Cause.{no_cause}
 use Rattle.line.specs.Line.{from_0, table_length}
 use Rattle.line.specs.Marks.{marked, faults}
 use Rattle.header.specs.Header.{header_verdict}
-use Rattle.refusal.specs.declared.cause.Verdict.TheVariants.{Accepted}
 use Rattle.broadcast.specs.Bytes.{Run, log, outcomes}
 use Rattle.broadcast.specs.Guarantees.{Good, TwoThreshold}
 use Rattle.broadcast.specs.Theorems.{value_at, flag_at}
@@ -27,7 +27,7 @@ pub record Bonders (n t T sender value marks : ℕ) (v : ℕ → ℕ) (received 
 -- there are such lines: every rehearsal's log and outcomes are one
 abbrev pub RehearsedBonders : Type 0
 RehearsedBonders =
-    (R : Run) → header_verdict R.n R.t R.T R.sender R.value R.marks ≡ Accepted
+    (R : Run) → header_verdict R.n R.t R.T R.sender R.value R.marks ≡ no_cause
     → (v : ℕ → ℕ) → Values R v
     → Bonders R.n R.t R.T R.sender R.value R.marks v (log R) (outcomes R)
 
@@ -35,7 +35,7 @@ RehearsedBonders =
 abbrev pub Demand3OfBonders : Type 0
 Demand3OfBonders =
     (n t T sender value marks : ℕ) (v : ℕ → ℕ) (received outcomes : List ℕ)
-    → header_verdict n t T sender value marks ≡ Accepted
+    → header_verdict n t T sender value marks ≡ no_cause
     → Bonders n t T sender value marks v received outcomes
     → TwoThreshold 2 n t T (marked marks) (from_0 sender) value (value_at outcomes) (flag_at outcomes)
 
@@ -43,7 +43,7 @@ Demand3OfBonders =
 abbrev pub UnflaggedBondersAgree : Type 0
 UnflaggedBondersAgree =
     (n t T sender value marks : ℕ) (v : ℕ → ℕ) (received outcomes : List ℕ)
-    → header_verdict n t T sender value marks ≡ Accepted
+    → header_verdict n t T sender value marks ≡ no_cause
     → Bonders n t T sender value marks v received outcomes
     → faults n (marked marks) ≤ T → (k : ℕ) → Good n (marked marks) k → flag_at outcomes k ≢ 1
     → (i j : ℕ) → Good n (marked marks) i → Good n (marked marks) j → value_at outcomes i ≡ value_at outcomes j

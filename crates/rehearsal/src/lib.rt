@@ -23,11 +23,10 @@ fn judge(
 ) -> Verdict
     ensures { result ≡ rehearsal_verdict line.n line.t line.upper sender value marks table_len log_len outcomes_len }
 {
-    let a = header::header_verdict(line, sender, value, marks);
-    let b = header::exact_length(line.table_len(), table_len);
-    let c = header::exact_length(line.table_len(), log_len);
-    let d = header::exact_length(line.outcomes_len(), outcomes_len);
-    a.or_else(b.or_else(c.or_else(d)))
+    header::header_verdict(line, sender, value, marks)?;
+    header::exact_length(line.table_len(), table_len)?;
+    header::exact_length(line.table_len(), log_len)?;
+    header::exact_length(line.outcomes_len(), outcomes_len)
 }
 
 // All rounds, from the first to the last: the stations after it. All are opened with the value, which matters only at the sender.
@@ -99,7 +98,7 @@ pub fn rehearse(
 ) -> Verdict
     ensures { Rehearsed (run_of line.n line.t line.upper sender value marks table.now) log.old log.new outcomes.old outcomes.new result }
 {
-    let verdict = judge(
+    judge(
         line,
         sender,
         value,
@@ -107,9 +106,7 @@ pub fn rehearse(
         table.len(),
         log.len(),
         outcomes.len(),
-    );
-    if let Verdict::Accepted = verdict {
-        run(line, sender, value, marks, table, log, outcomes);
-    }
-    verdict
+    )?;
+    run(line, sender, value, marks, table, log, outcomes);
+    Ok(())
 }

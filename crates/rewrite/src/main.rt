@@ -4,7 +4,7 @@
 ghost use Rattle.std.specs.Prelude.{◌≡◌, ◌+◌, ◌≤◌, min, length, take};
 ghost use Rattle.std.specs.Counts.{IsPrefixLen};
 ghost use Rattle.line.specs.Width.{largest_tables};
-ghost use Rattle.refusal.specs.declared.cause.Verdict.TheVariants.{Accepted};
+ghost use Rattle.refusal.specs.Cause.{no_cause};
 ghost use Rattle.layout.specs.Layout.{longest_sheet, tables_wanted};
 ghost use Rattle.writer.specs.Sheet.{sheet};
 ghost use Rattle.writer.specs.Judgement.{before_buffer};
@@ -12,26 +12,21 @@ ghost use Rattle.rewrite.specs.Output.{Rewritten};
 
 use input::Input;
 use line::Line;
-use reader::Reading;
 use std::io;
-use writer::Need;
 
 // The longest sheet.
 const LONGEST: usize = layout::LONGEST_SHEET;
 
 // Writes a sheet that nothing refuses at the start of the output.
 fn write(header: &[u8], table: &[u8], out: &mut [u8]) -> usize
-    requires { (before_buffer header.now table.now ≡ Accepted) × (length out.old ≡ longest_sheet) }
+    requires { (before_buffer header.now table.now ≡ no_cause) × (length out.old ≡ longest_sheet) }
     ensures { (result ≤ length out.new) × (take result out.new ≡ sheet header.now table.now) }
 {
-    let need = writer::needed(header, table);
-    match need {
-        Need::Bytes(len) => {
-            writer::write(header, table, &mut out[..len]);
-            len
-        }
-        Need::Refused(_) => 0,
-    }
+    let Ok(len) = writer::needed(header, table) else {
+        return 0;
+    };
+    let _ = writer::write(header, table, &mut out[..len]);
+    len
 }
 
 // Reads a sheet into the tables of all bits, and writes what was read.
@@ -39,10 +34,9 @@ fn rewrite(sheet: &[u8], table: &mut [u8], out: &mut [u8]) -> usize
     requires { (length table.old ≡ min (tables_wanted sheet.now) largest_tables) × (length out.old ≡ longest_sheet) }
     ensures { Rewritten sheet.now out.new result }
 {
-    let reading = reader::read(sheet, table);
-    match reading {
-        Reading::Accepted(_) => write(&sheet[..12], table, out),
-        Reading::Refused(c) => listing_lines::of_refusal(out, c.number()),
+    match reader::read(sheet, table) {
+        Ok(_) => write(&sheet[..12], table, out),
+        Err(cause) => listing_lines::of_refusal(out, cause.number()),
     }
 }
 

@@ -1,5 +1,6 @@
 -- Laws of generated tables that are written and read back. Assumes nothing.
 use Prim.Native.Nat.{ℕ, ◌≤◌, ◌<◌}
+use Rattle.refusal.specs.Cause.{no_cause}
 use mathlib.Core.Path.{◌≡◌, refl, sym, ◌∙◌}
 use mathlib.Core.Bool.{Bool, true, false}
 use mathlib.Core.List.{List}
@@ -9,7 +10,6 @@ use borrow.Author.Tests.{le-ltb}
 use Rattle.std.specs.Prelude.{if◌then◌else◌}
 use Rattle.line.specs.Marks.{marked}
 use Rattle.refusal.specs.declared.cause.Cause.TheVariants.{TooManyRecords}
-use Rattle.refusal.specs.declared.cause.Verdict.TheVariants.{Accepted}
 use Rattle.refusal.proofs.VerdictLaws.{both_accepted, refused_false}
 use Rattle.header.proofs.HeaderLaws.{length_accepts}
 use Rattle.layout.specs.Layout.{header, tables_wanted, most_records}
@@ -45,16 +45,16 @@ module _ (h : List ℕ) (seed : ℕ) where
       go true e = refl
       go false e = sym (generated_at (header h) seed p (rw (generated_length (header h) seed) at l) ∙ byte_silent (header h).line.n (header h).marks seed p e)
 
-  module _ (v : generate_verdict h seed (tables_wanted h) ≡ Accepted) (few : how_many (header h) table ≤ most_records) where
-    twelve : header_length h ≡ Accepted
+  module _ (v : generate_verdict h seed (tables_wanted h) ≡ no_cause) (few : how_many (header h) table ≤ most_records) where
+    twelve : header_length h ≡ no_cause
     unfolding generate_verdict
     twelve = (both_accepted (header_length h) _ v).0
 
-    headed : verdict_to_6 h ≡ Accepted
+    headed : verdict_to_6 h ≡ no_cause
     unfolding generate_verdict
     headed = (both_accepted (verdict_to_6 h) _ (both_accepted (header_length h) _ v).1).0
 
-    writable : before_buffer h table ≡ Accepted
+    writable : before_buffer h table ≡ no_cause
     unfolding before_buffer header_and_table verdict_to_8 too_many
     writable = rw (twelve, headed, length_accepts (tables_wanted h) (length table) table_size, refused_false TooManyRecords (le-ltb _ _ few))
 
@@ -66,7 +66,7 @@ module _ (h : List ℕ) (seed : ℕ) where
         ext_get_or 0 _ _ (back.length_back f)
         (λ p q. let l : p < length table = rw (back.length_back f) at q in back.table_back f p l ∙ kept_same p l)
 
-    accepted : (f : Fate (sheet h table)) → sheet_verdict (sheet h table) (tables_wanted h) f ≡ Accepted
+    accepted : (f : Fate (sheet h table)) → sheet_verdict (sheet h table) (tables_wanted h) f ≡ no_cause
     accepted f = rw table_size at (back.accepted f)
 
     same_listing : (f : Fate (sheet h table)) → lines (sheet h table) f ≡ seed_lines (header h) seed

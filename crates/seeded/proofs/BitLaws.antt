@@ -9,7 +9,7 @@ use lib.ListN.{length}
 use Rattle.line.specs.Line.{rounds, table_length, outcomes_length}
 use Rattle.line.specs.Width.{bits, bit_of, part_of}
 use Rattle.line.proofs.WidthLaws.{bits_some, part_size}
-use Rattle.refusal.specs.declared.cause.Verdict.{Verdict}
+use Rattle.refusal.specs.Cause.{Verdict}
 use Rattle.number.specs.Numbers.{bit_run, number_outcomes}
 use Rattle.rehearsal.specs.Promise.{run_of}
 use Rattle.recipe.specs.Promise.{RehearsedBit}

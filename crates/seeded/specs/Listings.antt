@@ -1,6 +1,6 @@
 -- What the program seeds prints (document 02, request 7): "A program reads one sheet, keeps its header and prints the listings for seeds 1 to 100."
 use Rattle.std.specs.Prelude.{ℕ, zero, suc, List, [], ◌++◌}
-use Rattle.refusal.specs.declared.cause.Verdict.TheVariants.{Accepted}
+use Rattle.refusal.specs.Cause.{no_cause}
 use Rattle.number.specs.Numbers.{number_outcomes}
 use Rattle.layout.specs.declared.Header.{Header}
 use Rattle.layout.specs.Layout.{header}
@@ -15,7 +15,7 @@ last_seed = 100
 
 -- the listing of one seed's run: that of the whole number
 unfoldable pub seed_lines : Header → ℕ → List (List Field)
-seed_lines h seed = lines_by Accepted h (number_outcomes (seed_run h seed))
+seed_lines h seed = lines_by no_cause h (number_outcomes (seed_run h seed))
 
 -- the listings of the seeds 1 to m, one after another
 unfoldable pub listings : Header → ℕ → List ℕ

@@ -3,9 +3,8 @@ use Rattle.std.specs.Prelude.{ℕ, ◌-◌, ◌^◌, ◌≡◌, List, length}
 use Rattle.line.specs.Line.{from_0, table_length, outcomes_length}
 use Rattle.line.specs.Marks.{marked}
 use Rattle.line.specs.Width.{bits, part_of}
-use Rattle.refusal.specs.Cause.{Judged, ◌or_else◌, written}
-use Rattle.refusal.specs.declared.cause.Verdict.{Verdict}
-use Rattle.refusal.specs.declared.cause.Verdict.TheVariants.{Accepted}
+use Rattle.refusal.specs.Cause.{Judged, ◌or_else◌, written, no_cause}
+use Rattle.refusal.specs.Cause.{Verdict}
 use Rattle.header.specs.Header.{number_verdict, exact_length}
 use Rattle.broadcast.specs.Bytes.{log}
 use Rattle.broadcast.specs.Guarantees.{TwoThreshold}
@@ -47,5 +46,5 @@ pub record RehearsedSeed (h : Header) (seed : ℕ) (table₀ table₁ log₀ log
   -- every byte of the outcomes at exit: those of the whole number, or as they were
   pub outcomes_are : outcomes₁ ≡ written answer (number_outcomes (seed_run h seed)) outcomes₀
   -- demand 3, of the outcome bytes at exit
-  pub demand_3 : answer ≡ Accepted
+  pub demand_3 : answer ≡ no_cause
       → TwoThreshold (2 ^ bits h.w) h.line.n h.line.t h.line.upper (marked h.marks) (from_0 h.sender) h.value (value_at outcomes₁) (flag_at outcomes₁)

@@ -8,6 +8,7 @@ ghost use Rattle.seeded.specs.Loops.{BitsRun, Ran};
 
 use layout::Header;
 use line::{Line, width};
+use refusal::cause;
 use refusal::cause::{Cause, Verdict};
 
 // Causes 15 and 2 to 6 of the header, 16 of the seed, and 8 of the table's, the log's and the outcomes' lengths.
@@ -20,18 +21,17 @@ fn judge(
 ) -> Verdict
     ensures { result ≡ seed_verdict header seed table_len log_len outcomes_len }
 {
-    let a = header::number_verdict(
+    header::number_verdict(
         header.line,
         header.sender,
         header.value,
         header.w,
         header.marks,
-    );
-    let s = Verdict::refused_if(seed == 0, Cause::Seed);
-    let b = header::exact_length(header.line.table_len(), table_len);
-    let c = header::exact_length(header.line.table_len(), log_len);
-    let d = header::exact_length(header.line.outcomes_len(), outcomes_len);
-    a.or_else(s.or_else(b.or_else(c.or_else(d))))
+    )?;
+    cause::refused_if(seed == 0, Cause::Seed)?;
+    header::exact_length(header.line.table_len(), table_len)?;
+    header::exact_length(header.line.table_len(), log_len)?;
+    header::exact_length(header.line.outcomes_len(), outcomes_len)
 }
 
 // Bit b: its table is generated from the state that the bits below it left, and rehearsed. The answer is the state that it leaves.
@@ -85,9 +85,7 @@ pub fn rehearse(
 ) -> Verdict
     ensures { RehearsedSeed header seed table.old table.new log.old log.new outcomes.old outcomes.new result }
 {
-    let verdict = judge(header, seed, table.len(), log.len(), outcomes.len());
-    if let Verdict::Accepted = verdict {
-        run(header, seed, table, log, outcomes);
-    }
-    verdict
+    judge(header, seed, table.len(), log.len(), outcomes.len())?;
+    run(header, seed, table, log, outcomes);
+    Ok(())
 }

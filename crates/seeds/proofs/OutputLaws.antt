@@ -1,5 +1,8 @@
 -- Laws of what is printed, by the reader's answer. Assumes nothing.
 use Prim.Native.Nat.{ℕ, ◌≤◌, min}
+use Rattle.std.specs.declared.result.Result.{Result}
+use Rattle.refusal.specs.Cause.{no_cause}
+use Rattle.std.specs.declared.result.Result.TheVariants.{Ok, Err}
 use mathlib.Core.Path.{◌≡◌, sym, ◌∙◌}
 use mathlib.Core.List.{List}
 use native.Mathlib.Nat.{min-eq_left}
@@ -8,13 +11,10 @@ use lib.ListN.{length}
 use Rattle.line.specs.Line.{largest_table, outcomes_length}
 use Rattle.line.proofs.LineLaws.{table_bound}
 use Rattle.refusal.specs.declared.cause.Cause.{Cause}
-use Rattle.refusal.specs.declared.cause.Verdict.TheVariants as verdict
 use Rattle.refusal.proofs.VerdictLaws.{both_accepted}
 use Rattle.layout.specs.declared.Header.{Header}
 use Rattle.layout.specs.Layout.{header, table_wanted}
 use Rattle.judgement.specs.Judgement.{bit_to_8, chain_verdict, bit_verdict}
-use Rattle.reader.specs.declared.Reading.{Reading}
-use Rattle.reader.specs.declared.Reading.TheVariants as reading
 use Rattle.reader.specs.Reading.{ReadsBit}
 use Rattle.reader.specs.Loops.{SoundHeader}
 use Rattle.reader.proofs.PromiseLaws.{bit_sound, bit_length}
@@ -35,17 +35,17 @@ ready_header s h table bytes results B c =
 pub few : (s : List ℕ) (h : Header) (table bytes : List ℕ) → Begun s h table bytes → h.line.n ≤ 32
 few s h table bytes B = rw B.header_is B.sound.most
 
-module _ (s table₀ table₁ : List ℕ) {answer : Reading} (r : ReadsBit s 0 table₀ table₁ answer) (lent : length table₀ ≡ min (table_wanted s) largest_table) where
+module _ (s table₀ table₁ : List ℕ) {answer : Result Header Cause} (r : ReadsBit s 0 table₀ table₁ answer) (lent : length table₀ ≡ min (table_wanted s) largest_table) where
   -- the verdict is the sheet's own
   own : bit_verdict s 0 (length table₀) r.fate ≡ lines.verdict s r.fate
   own = bit_verdict_same s r.fate (length table₀)
       (λ sound. lent ∙ min-eq_left (table_bound (header s).line.n (header s).line.t (header s).line.upper sound.most sound.fits))
 
-  module _ (h : Header) (e : answer ≡ reading.Accepted h) where
-    both : (bit_verdict s 0 (length table₀) r.fate ≡ verdict.Accepted) × (h ≡ header s)
+  module _ (h : Header) (e : answer ≡ Ok h) where
+    both : (bit_verdict s 0 (length table₀) r.fate ≡ no_cause) × (h ≡ header s)
     both = bit_accepted s 0 table₀ table₁ r h e
 
-    opened : bit_to_8 s 0 (length table₀) ≡ verdict.Accepted
+    opened : bit_to_8 s 0 (length table₀) ≡ no_cause
     unfolding bit_verdict
     opened = (both_accepted (bit_to_8 s 0 (length table₀)) (chain_verdict s r.fate) both.0).0
 
@@ -63,5 +63,5 @@ module _ (s table₀ table₁ : List ℕ) {answer : Reading} (r : ReadsBit s 0 t
         (omega (arith, z, listings_short (header s) sound last_seed))
         (rw both.1 at p)
 
-  pub refused : (c : Cause) → answer ≡ reading.Refused c → lines.verdict s r.fate ≡ verdict.Refused c
+  pub refused : (c : Cause) → answer ≡ Err c → lines.verdict s r.fate ≡ Err c
   refused c e = sym own ∙ bit_refused s 0 table₀ table₁ r c e

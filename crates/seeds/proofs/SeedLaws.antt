@@ -7,8 +7,7 @@ use native.Mathlib.Omega.{arith}
 use lib.ListN.{length}
 use borrow.Author.Tests.{ne_eqb}
 use Rattle.refusal.specs.declared.cause.Cause.TheVariants.{Seed}
-use Rattle.refusal.specs.declared.cause.Verdict.{Verdict}
-use Rattle.refusal.specs.declared.cause.Verdict.TheVariants.{Accepted}
+use Rattle.refusal.specs.Cause.{Verdict, no_cause}
 use Rattle.refusal.proofs.VerdictLaws.{refused_false}
 use Rattle.number.specs.Numbers.{number_outcomes}
 use Rattle.layout.specs.declared.Header.{Header}
@@ -21,19 +20,19 @@ use Rattle.seeded.specs.Listings.{seed_lines}
 use Rattle.seeded.proofs.PromiseLaws.{not_refused}
 use Rattle.seeds.specs.Loops as loops
 
-seed_taken : (seed : ℕ) → 1 ≤ seed → seed_some seed ≡ Accepted
+seed_taken : (seed : ℕ) → 1 ≤ seed → seed_some seed ≡ no_cause
 unfolding seed_some
 seed_taken seed some = let ne : seed ≢ 0 = λ e. omega arith in refused_false Seed (ne_eqb seed 0 ne)
 
 module _ (h : Header) (seed : ℕ) (some : loops.Seed seed) (table₀ table₁ log₀ log₁ outcomes₀ outcomes₁ : List ℕ) {answer : Verdict}
     (ready : loops.Ready h table₀ log₀ outcomes₀) (R : RehearsedSeed h seed table₀ table₁ log₀ log₁ outcomes₀ outcomes₁ answer) where
-  taken : answer ≡ Accepted
+  taken : answer ≡ no_cause
   taken =
       R.judged.answer_is
       ∙ not_refused h seed table₀ log₀ outcomes₀ ready.sound (seed_taken seed some.some) ready.table_whole ready.log_whole ready.outcomes_whole
 
   -- what the outcomes' lines are
-  pub lines_seed : (out₀ out₁ : List ℕ) (at r : ℕ) → Puts out₀ out₁ at (text (lines_by Accepted h outcomes₁)) r → Puts out₀ out₁ at (text (seed_lines h seed)) r
+  pub lines_seed : (out₀ out₁ : List ℕ) (at r : ℕ) → Puts out₀ out₁ at (text (lines_by no_cause h outcomes₁)) r → Puts out₀ out₁ at (text (seed_lines h seed)) r
   unfolding seed_lines
   lines_seed out₀ out₁ at r p = let e : outcomes₁ ≡ number_outcomes (seed_run h seed) = rw taken at R.outcomes_are in rw e at p
 

@@ -14,7 +14,6 @@ ghost use Rattle.seeds.specs.Loops.{Seed, Ready, Begun, longest_output};
 use input::Input;
 use layout::Header;
 use line::Line;
-use reader::Reading;
 use std::io;
 use std::io::{IsTerminal, Stderr};
 
@@ -48,7 +47,7 @@ fn list_seed(
     requires { Ready header table.old log.old outcomes.old × Seed seed }
     ensures { Ready header table.new log.new outcomes.new × Puts out.old out.new at (text (seed_lines header seed)) result }
 {
-    seeded::rehearse(header, seed, table, log, outcomes);
+    let _ = seeded::rehearse(header, seed, table, log, outcomes);
     listing_lines::of_run(out, at, header, outcomes)
 }
 
@@ -103,10 +102,9 @@ fn list(
     requires { (length table.old ≡ min (table_wanted sheet.now) largest_table) × (length log.old ≡ length table.old) × (length out.old ≡ longest_output) }
     ensures { Printed sheet.now out.new result }
 {
-    let reading = reader::read_bit(sheet, 0, table);
-    match reading {
-        Reading::Accepted(header) => list_header(header, sheet, table, log, out, terminal),
-        Reading::Refused(c) => listing_lines::of_refusal(out, c.number()),
+    match reader::read_bit(sheet, 0, table) {
+        Ok(header) => list_header(header, sheet, table, log, out, terminal),
+        Err(cause) => listing_lines::of_refusal(out, cause.number()),
     }
 }
 

@@ -1,5 +1,6 @@
 -- A station that is not refused is as document 01 wants it. Assumes nothing.
 use Prim.Native.Nat.{ℕ, ◌+◌, ◌≤◌, ◌<◌}
+use Rattle.std.specs.declared.result.Result.TheVariants.{Ok, Err}
 use mathlib.Core.Path.{◌≡◌, refl, ◌∙◌}
 use mathlib.Core.List.{List}
 use mathlib.Core.Logic.{◌⊎◌, inl, inr}
@@ -8,9 +9,8 @@ use lib.ListN.{length}
 use borrow.Author.Tests.{ltb-false, leb-false, eqb-false, le-ltb, lt-leb, ne_eqb}
 use Rattle.line.specs.Line.{rounds}
 use Rattle.header.specs.Header.{station_number}
-use Rattle.refusal.specs.Cause.{◌or_else◌}
-use Rattle.refusal.specs.declared.cause.Verdict.{Verdict}
-use Rattle.refusal.specs.declared.cause.Verdict.TheVariants.{Accepted, Refused}
+use Rattle.refusal.specs.Cause.{◌or_else◌, no_cause}
+use Rattle.refusal.specs.Cause.{Verdict}
 use Rattle.line.proofs.CountLaws.{le_or_lt}
 use Rattle.header.specs.Header as header
 use Rattle.refusal.proofs.VerdictLaws.{both_accepted, accepted_false, refused_false, neither}
@@ -23,11 +23,11 @@ pub joined : (a b c d : Verdict) {p q r : Verdict} → p ≡ (a or_else b or_els
 joined a b c d e f g = g ∙ rw (e, f) (go a b c)
   where
     go : (a b c : Verdict) → ((a or_else b or_else c) or_else d) ≡ (a or_else b or_else c or_else d)
-    go Accepted Accepted c = refl
-    go Accepted (Refused x) c = refl
-    go (Refused x) b c = refl
+    go (Ok _) (Ok _) c = refl
+    go (Ok _) (Err x) c = refl
+    go (Err x) b c = refl
 
-pub sound : (s : Station) → station_verdict s ≡ Accepted → Sound s
+pub sound : (s : Station) → station_verdict s ≡ no_cause → Sound s
 unfolding station_verdict station_number state_verdict foreign_state
 sound s e =
     let (a, e₂) = both_accepted _ _ e in
@@ -56,7 +56,7 @@ sound s e =
       garbled_below = leb-false s.round s.garbled k;
     }
 
-pub telling_sound : (s : Station) → telling_verdict s ≡ Accepted → Sound s × (s.round ≤ rounds s.t)
+pub telling_sound : (s : Station) → telling_verdict s ≡ no_cause → Sound s × (s.round ≤ rounds s.t)
 unfolding telling_verdict is_done
 telling_sound s e =
     let (a, b) = both_accepted _ _ e in
@@ -71,7 +71,7 @@ telling_sound s e =
         go (inl k) = absurd (ne (omega arith))
         go (inr k) = omega arith
 
-pub ready : (s : Station) (row : List ℕ) → taking_verdict s (length row) ≡ Accepted → Ready s row
+pub ready : (s : Station) (row : List ℕ) → taking_verdict s (length row) ≡ no_cause → Ready s row
 unfolding taking_verdict
 ready s row e =
     let (a, b) = both_accepted _ _ e in
@@ -80,23 +80,23 @@ ready s row e =
 
 -- ---- and a station that is as document 01 wants it is not refused
 
-pub sound_accepts : (s : Station) → Sound s → station_verdict s ≡ Accepted
+pub sound_accepts : (s : Station) → Sound s → station_verdict s ≡ no_cause
 unfolding station_verdict state_verdict foreign_state
 sound_accepts s h =
     rw (line_accepts s.n s.t s.upper h.most h.fits, number_accepts s.n s.sender h.sender_low h.sender_high, number_accepts s.n s.own h.own_low h.own_high, inside_not 1 (rounds s.t + 1) s.round h.round_low h.round_high, le-ltb 1 s.value h.value_bit, le-ltb 2 s.z h.z_high, le-ltb 2 s.grade h.grade_high, lt-leb s.round s.garbled h.garbled_below)
     (refused_false _ refl)
 
-pub telling_accepts : (s : Station) → Sound s → s.round ≤ rounds s.t → telling_verdict s ≡ Accepted
+pub telling_accepts : (s : Station) → Sound s → s.round ≤ rounds s.t → telling_verdict s ≡ no_cause
 unfolding telling_verdict is_done
 telling_accepts s h l =
     rw (sound_accepts s h, ne_eqb s.round (rounds s.t + 1) (λ e. omega arith)) (refused_false _ refl)
 
-pub taking_accepts : (s : Station) (row : List ℕ) → Ready s row → taking_verdict s (length row) ≡ Accepted
+pub taking_accepts : (s : Station) (row : List ℕ) → Ready s row → taking_verdict s (length row) ≡ no_cause
 unfolding taking_verdict
 taking_accepts s row h = rw (telling_accepts s h.sound h.round_left, length_accepts s.n (length row) h.whole)
 
 pub opening_accepts : (n t T sender own value marks : ℕ) → header.Sound n t T sender value marks → 1 ≤ own → own ≤ n
-    → opening_verdict n t T sender own value ≡ Accepted
+    → opening_verdict n t T sender own value ≡ no_cause
 unfolding opening_verdict
 opening_accepts n t T sender own value marks h a b =
     rw (line_accepts n t T h.most h.fits, number_accepts n sender h.sender_low h.sender_high, number_accepts n own a b, bit_accepts value h.value_bit)

@@ -4,7 +4,7 @@ use Rattle.line.specs.Line.{Fits, rounds}
 use Rattle.refusal.specs.Cause.{refused_if, ◌or_else◌}
 use Rattle.header.specs.Header.{outside, line_verdict, station_number, bit, exact_length}
 use Rattle.refusal.specs.declared.cause.Cause.TheVariants.{StationState}
-use Rattle.refusal.specs.declared.cause.Verdict.{Verdict}
+use Rattle.refusal.specs.Cause.{Verdict}
 use Rattle.state.specs.declared.Station.{Station}
 
 -- "a station state whose round is outside 1 to R+1, value above 1, z or grade above 2", and (request 4) "A state whose count is not below its round": the

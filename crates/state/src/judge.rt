@@ -7,6 +7,7 @@ ghost use Rattle.state.specs.Judgement.{foreign_state, is_done, state_verdict, s
 
 use crate::Station;
 use line::Line;
+use refusal::cause;
 use refusal::cause::{Cause, Verdict};
 
 // R + 1, the round of a done station.
@@ -49,7 +50,7 @@ pub fn is_done(t: u8, round: u8) -> bool
 fn state(s: Station) -> Verdict
     ensures { result ≡ state_verdict s }
 {
-    Verdict::refused_if(
+    cause::refused_if(
         foreign_state(s.t, s.round, s.value, s.z, s.grade, s.garbled),
         Cause::StationState,
     )
@@ -59,44 +60,41 @@ fn state(s: Station) -> Verdict
 fn numbers(n: u8, t: u8, upper: u8, sender: u8, own: u8) -> Verdict
     ensures { result ≡ line_verdict n t upper or_else station_number n sender or_else station_number n own }
 {
-    let a = header::line_verdict(Line { n, t, upper });
-    let b = header::station_number(n, sender);
-    let c = header::station_number(n, own);
-    a.or_else(b.or_else(c))
+    header::line_verdict(Line { n, t, upper })?;
+    header::station_number(n, sender)?;
+    header::station_number(n, own)
 }
 
 // Causes 2, 3, 4 and 7 of a station's content.
 pub fn station(s: Station) -> Verdict
     ensures { Judged (station_verdict s) result }
 {
-    let a = numbers(s.n, s.t, s.upper, s.sender, s.own);
-    let b = state(s);
-    a.or_else(b)
+    numbers(s.n, s.t, s.upper, s.sender, s.own)?;
+    state(s)
 }
 
 // .. and 7 where a ballot is wanted of a done station.
+#[tactic(auto, using(refusal::proofs::VerdictLaws::judged), unfolding(crate::specs::Judgement::telling_verdict))]
 pub fn telling(s: Station) -> Verdict
     ensures { Judged (telling_verdict s) result }
 {
-    let a = station(s);
-    let b = Verdict::refused_if(is_done(s.t, s.round), Cause::StationState);
-    a.or_else(b)
+    station(s)?;
+    cause::refused_if(is_done(s.t, s.round), Cause::StationState)
 }
 
 // .. and 8 for a row of another length than n.
+#[tactic(auto, using(refusal::proofs::VerdictLaws::judged), unfolding(crate::specs::Judgement::taking_verdict))]
 pub fn taking(s: Station, row_len: usize) -> Verdict
     ensures { Judged (taking_verdict s row_len) result }
 {
-    let a = telling(s);
-    let b = header::exact_length(s.n as usize, row_len);
-    a.or_else(b)
+    telling(s)?;
+    header::exact_length(s.n as usize, row_len)
 }
 
 // Causes 2, 3, 4 and 5 of what a station is opened with.
 pub fn opening(n: u8, t: u8, upper: u8, sender: u8, own: u8, value: u8) -> Verdict
     ensures { Judged (opening_verdict n t upper sender own value) result }
 {
-    let a = numbers(n, t, upper, sender, own);
-    let b = header::bit(value);
-    a.or_else(b)
+    numbers(n, t, upper, sender, own)?;
+    header::bit(value)
 }

@@ -1,24 +1,21 @@
 -- A station's calls on the rows of a log are the automaton's: whatever stations the caller has, they are the automaton's states. Assumes nothing.
 use Prim.Native.Nat.{ℕ, zero, suc, ◌+◌, ◌-◌, ◌≤◌}
+use Rattle.refusal.specs.declared.cause.Cause.{Cause}
+use Rattle.std.specs.declared.result.Result.{Result}
+use Rattle.refusal.specs.Cause.{no_cause}
+use Rattle.std.specs.declared.result.Result.TheVariants.{Ok}
 use mathlib.Core.Path.{◌≡◌, sym, ap, ◌∙◌}
 use mathlib.Core.List.{List}
 use native.Mathlib.Omega.{arith}
 use native.Mathlib.Numerals.{add-one}
 use lib.ListN.{length}
 use Rattle.line.specs.Line.{rounds}
-use Rattle.refusal.specs.declared.cause.Verdict.TheVariants.{Accepted}
-use Rattle.broadcast.specs.Station.{Setup, Result, done, ballot, result, after}
+use Rattle.broadcast.specs.Station.{Setup, Result as AutomatonResult, done, ballot, result, after}
 use Rattle.broadcast.specs.Bytes.{column}
 use Rattle.broadcast.proofs.BytesLaws.{length_tabulate}
 use Rattle.broadcast.proofs.Theorems.{done_after_rows}
 use Rattle.state.specs.declared.Station.{Station}
 use Rattle.state.specs.Judgement.{opening_verdict}
-use Rattle.station.specs.declared.Opened.{Opened}
-use Rattle.station.specs.declared.Opened.TheVariants.{Ready}
-use Rattle.station.specs.declared.Told.{Told}
-use Rattle.station.specs.declared.Told.TheVariants.{Ballot}
-use Rattle.station.specs.declared.Advanced.{Advanced}
-use Rattle.station.specs.declared.Advanced.TheVariants.{Next}
 use Rattle.station.specs.declared.StationResult.{StationResult}
 use Rattle.station.specs.declared.StationResult.TheVariants.{Done}
 use Rattle.station.specs.Answers.{ballot_answer, advance_answer, result_answer}
@@ -28,20 +25,20 @@ use Rattle.station.proofs.CallLaws as calls
 
 -- ---- a call's answer, the same for the same station, has one value
 
-same_ready : {o : Opened} {a b : Station} → o ≡ Ready a → o ≡ Ready b → a ≡ b
+same_ready : {o : Result Station Cause} {a b : Station} → o ≡ Ok a → o ≡ Ok b → a ≡ b
 same_ready p q = cc
 
-same_next : (f : Station → Advanced) {s s' a b : Station} → s ≡ s' → f s ≡ Next a → f s' ≡ Next b → a ≡ b
+same_next : (f : Station → Result Station Cause) {s s' a b : Station} → s ≡ s' → f s ≡ Ok a → f s' ≡ Ok b → a ≡ b
 same_next f e p q = cc
 
-same_ballot : (f : Station → Told) {s s' : Station} {a b : ℕ} → s ≡ s' → f s ≡ Ballot a → f s' ≡ Ballot b → a ≡ b
+same_ballot : (f : Station → Result ℕ Cause) {s s' : Station} {a b : ℕ} → s ≡ s' → f s ≡ Ok a → f s' ≡ Ok b → a ≡ b
 same_ballot f e p q = cc
 
-same_answer : (f : Station → StationResult) {s s' : Station} {a b c d a' b' c' d' : ℕ} → s ≡ s' → f s ≡ Done a b c d → f s' ≡ Done a' b' c' d'
+same_answer : (f : Station → Result StationResult Cause) {s s' : Station} {a b c d a' b' c' d' : ℕ} → s ≡ s' → f s ≡ Ok (Done a b c d) → f s' ≡ Ok (Done a' b' c' d')
     → done a' b' c' d' ≡ done a b c d
 same_answer f e p q = cc
 
-answer_same : {r : Result} {a b c d a' b' c' d' : ℕ} → r ≡ done a b c d → r ≡ done a' b' c' d' → Done a b c d ≡ Done a' b' c' d'
+answer_same : {r : AutomatonResult} {a b c d a' b' c' d' : ℕ} → r ≡ done a b c d → r ≡ done a' b' c' d' → ◌≡◌ {A = Result StationResult Cause} (Ok (Done a b c d)) (Ok (Done a' b' c' d'))
 answer_same p q = cc
 
 row_whole : (n : ℕ) (bytes : List ℕ) (i r : ℕ) → length (column n bytes i r) ≡ n
@@ -50,7 +47,7 @@ row_whole n bytes i r = length_tabulate n _
 
 -- ---- of a station that is opened
 
-module _ (n t T sender : ℕ) (log outcomes : List ℕ) (i v : ℕ) (accepted : opening_verdict n t T sender (i + 1) v ≡ Accepted) where
+module _ (n t T sender : ℕ) (log outcomes : List ℕ) (i v : ℕ) (accepted : opening_verdict n t T sender (i + 1) v ≡ no_cause) where
   abbrev opening : Opening
   opening = record { n = n; t = t; T = T; sender = sender; own = i + 1; value = v }
 
@@ -73,7 +70,7 @@ module _ (n t T sender : ℕ) (log outcomes : List ℕ) (i v : ℕ) (accepted : 
   singly A = record {
     station = station_after opening rows;
     opens = in_a_row.opens;
-    tells = λ m j h l. in_a_row.tells m h ∙ ap Ballot (its_ballot m ∙ A.ballots m j h l);
+    tells = λ m j h l. in_a_row.tells m h ∙ ap Ok (its_ballot m ∙ A.ballots m j h l);
     running = in_a_row.running;
     advances = λ m h. rw (add-one m) (in_a_row.advances m h (row_whole n log i (suc m)));
     done = in_a_row.done ∙ answer_same (done_after_rows (setup opening) v rows).done_after (its_end ∙ A.done_after);

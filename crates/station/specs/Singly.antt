@@ -1,13 +1,11 @@
 -- One station run singly on the rows of a log: what `open`, `ballot`, `advance` and `result` answer. Station i is counted from 0: its number is i + 1.
 use Rattle.std.specs.Prelude.{ℕ, ◌+◌, ◌<◌, ◌≡◌, List}
+use Rattle.std.specs.declared.result.Result.TheVariants.{Ok}
 use Rattle.line.specs.Line.{from_0, rounds, place}
 use Rattle.broadcast.specs.Station.{Setup, done, ballot, result, at, after}
 use Rattle.broadcast.specs.Bytes.{column}
 use Rattle.broadcast.specs.Theorems.{value_at, grade_at, flag_at, garbled_at}
 use Rattle.state.specs.declared.Station.{Station}
-use Rattle.station.specs.declared.Opened.TheVariants as opened
-use Rattle.station.specs.declared.Told.TheVariants as told
-use Rattle.station.specs.declared.Advanced.TheVariants as advanced
 use Rattle.station.specs.declared.StationResult.TheVariants as station_result
 use Rattle.station.specs.Answers.{open_answer, ballot_answer, advance_answer, result_answer}
 
@@ -15,12 +13,12 @@ use Rattle.station.specs.Answers.{open_answer, ballot_answer, advance_answer, re
 -- done with its bytes of the outcomes. `station m` is what the caller has after m rows.
 pub record Singly (n t T sender : ℕ) (log outcomes : List ℕ) (i v : ℕ) : Type 0 where
   pub station : ℕ → Station
-  pub opens : open_answer n t T sender (i + 1) v ≡ opened.Ready (station 0)
-  pub tells : (m j : ℕ) → m < rounds t → j < n → ballot_answer (station m) ≡ told.Ballot (at log (place n (m + 1) i j))
-  pub running : (m : ℕ) → m < rounds t → result_answer (station m) ≡ station_result.Running (m + 1)
-  pub advances : (m : ℕ) → m < rounds t → advance_answer (station m) (column n log i (m + 1)) ≡ advanced.Next (station (m + 1))
+  pub opens : open_answer n t T sender (i + 1) v ≡ Ok (station 0)
+  pub tells : (m j : ℕ) → m < rounds t → j < n → ballot_answer (station m) ≡ Ok (at log (place n (m + 1) i j))
+  pub running : (m : ℕ) → m < rounds t → result_answer (station m) ≡ Ok (station_result.Running (m + 1))
+  pub advances : (m : ℕ) → m < rounds t → advance_answer (station m) (column n log i (m + 1)) ≡ Ok (station (m + 1))
   pub done : result_answer (station (rounds t))
-      ≡ station_result.Done (value_at outcomes i) (grade_at outcomes i) (flag_at outcomes i) (garbled_at outcomes i)
+      ≡ Ok (station_result.Done (value_at outcomes i) (grade_at outcomes i) (flag_at outcomes i) (garbled_at outcomes i))
 
 -- station i of the line as the automaton's setup
 abbrev pub setup_at : ℕ → ℕ → ℕ → ℕ → ℕ → Setup

@@ -5,7 +5,7 @@ ghost use Rattle.stored_run.specs.Promise.{Leaves};
 
 use layout::Header;
 use line::Line;
-use reader::Reading;
+use refusal::cause;
 
 mod print;
 
@@ -19,7 +19,7 @@ fn decide(out: &impl Print, h: Header, table: &[u8], log: &mut [u8], outcomes: &
     let verdict = recipe::rehearse(
         h.line, h.sender, h.value, h.w, h.marks, table, log, outcomes,
     );
-    print::rehearsal(out, verdict.code(), log, outcomes);
+    print::rehearsal(out, cause::code(verdict), log, outcomes);
 }
 
 // Lends logs of the tables' length and the outcomes of n stations.
@@ -37,9 +37,8 @@ pub fn run<P: Print>(out: &P, k: u64, sheet: &[u8], lent: u16, table: &mut [u8])
     ensures { Leaves sheet.now table.old table.new }
 {
     print::name(out, k);
-    let reading = reader::read(sheet, table);
-    match reading {
-        Reading::Accepted(h) => accepted(out, h, table, lent),
-        Reading::Refused(c) => print::refusal(out, c.number(), table),
+    match reader::read(sheet, table) {
+        Ok(h) => accepted(out, h, table, lent),
+        Err(cause) => print::refusal(out, cause.number(), table),
     }
 }

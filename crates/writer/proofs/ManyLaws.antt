@@ -1,5 +1,6 @@
 -- Laws of cause 14: which verdicts it can be told from, and when writing is refused by it. Assumes nothing.
 use Prim.Native.Nat.{ℕ, ◌^◌, ◌<◌}
+use Rattle.std.specs.declared.result.Result.TheVariants.{Ok, Err}
 use mathlib.Core.Path.{◌≡◌, refl, ap, ◌∙◌}
 use mathlib.Core.Bool.{Bool, true, false, not}
 use mathlib.Core.Logic.{◌≢◌, ◌↔◌}
@@ -11,11 +12,10 @@ use borrow.Author.Tests.{ltb-true, lt-ltb}
 use Rattle.line.specs.Line.{most_stations}
 use Rattle.line.specs.Width.{most_bits, bits}
 use Rattle.line.specs.Marks.{mark_beyond}
-use Rattle.refusal.specs.Cause.{number, code, refused_if, ◌or_else◌}
+use Rattle.refusal.specs.Cause.{number, code, refused_if, ◌or_else◌, no_cause}
 use Rattle.refusal.specs.declared.cause.Cause.{Cause}
 use Rattle.refusal.specs.declared.cause.Cause.TheVariants.{SheetForm, StationCount, Thresholds, StationNumber, Value, MarkBeyond, Length, TooManyRecords, Width}
-use Rattle.refusal.specs.declared.cause.Verdict.{Verdict}
-use Rattle.refusal.specs.declared.cause.Verdict.TheVariants.{Accepted, Refused}
+use Rattle.refusal.specs.Cause.{Verdict}
 use Rattle.refusal.proofs.VerdictLaws.{refused_true}
 use Rattle.header.specs.Header.{outside, exceeded, station_count, thresholds, station_number, number_within, marks_within, width, line_verdict, number_verdict, exact_length}
 use Rattle.layout.specs.Layout.{header, tables_wanted, most_records}
@@ -35,8 +35,8 @@ if_other true c h = h
 if_other false c h = λ e. omega arith
 
 or_other : (v w : Verdict) → Other v → Other w → Other (v or_else w)
-or_other Accepted w a b = b
-or_other (Refused c) w a b = a
+or_other (Ok _) w a b = b
+or_other (Err c) w a b = a
 
 line_other : (n t T : ℕ) → Other (line_verdict n t T)
 unfolding line_verdict station_count thresholds
@@ -75,22 +75,22 @@ taken_other h l =
 
 module _ (h table : List ℕ) (size : ℕ) where
   -- refused by 14: nothing before it, and more than 4,096
-  told : write_verdict h table size ≡ Refused TooManyRecords → (header_and_table h (length table) ≡ Accepted) × (most_records < how_many (header h) table)
+  told : write_verdict h table size ≡ Err TooManyRecords → (header_and_table h (length table) ≡ no_cause) × (most_records < how_many (header h) table)
   unfolding write_verdict before_buffer too_many refused_if
   told e = go (header_and_table h (length table)) refl (ltb most_records (how_many (header h) table)) refl e
     where
       go : (v : Verdict) → header_and_table h (length table) ≡ v → (b : Bool) → ltb most_records (how_many (header h) table) ≡ b
-          → (v or_else refused_if b TooManyRecords) or_else exact_length (sheet_length h table) size ≡ Refused TooManyRecords
-          → (header_and_table h (length table) ≡ Accepted) × (most_records < how_many (header h) table)
-      go Accepted p true q r = (p, ltb-true most_records (how_many (header h) table) q)
-      go Accepted p false q r = absurd (length_other (sheet_length h table) size (ap code r))
-      go (Refused c) p b q r = absurd (taken_other h (length table) (ap code p ∙ ap code r))
+          → (v or_else refused_if b TooManyRecords) or_else exact_length (sheet_length h table) size ≡ Err TooManyRecords
+          → (header_and_table h (length table) ≡ no_cause) × (most_records < how_many (header h) table)
+      go (Ok _) p true q r = (p, ltb-true most_records (how_many (header h) table) q)
+      go (Ok _) p false q r = absurd (length_other (sheet_length h table) size (ap code r))
+      go (Err c) p b q r = absurd (taken_other h (length table) (ap code p ∙ ap code r))
 
   -- and the other way
-  tells : (header_and_table h (length table) ≡ Accepted) × (most_records < how_many (header h) table) → write_verdict h table size ≡ Refused TooManyRecords
+  tells : (header_and_table h (length table) ≡ no_cause) × (most_records < how_many (header h) table) → write_verdict h table size ≡ Err TooManyRecords
   unfolding write_verdict before_buffer too_many
   tells (e, l) = rw (e, refused_true TooManyRecords (lt-ltb most_records (how_many (header h) table) l))
 
-  pub refused_by_14 : (write_verdict h table size ≡ Refused TooManyRecords)
-      ↔ ((header_and_table h (length table) ≡ Accepted) × (most_records < how_many (header h) table))
+  pub refused_by_14 : (write_verdict h table size ≡ Err TooManyRecords)
+      ↔ ((header_and_table h (length table) ≡ no_cause) × (most_records < how_many (header h) table))
   refused_by_14 = (told, tells)

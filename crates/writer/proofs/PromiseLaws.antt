@@ -1,5 +1,7 @@
 -- Laws of what the calls promise: what no cause refuses, and the promises by what the verdict is. Assumes nothing.
 use Prim.Native.Nat.{ℕ, ◌+◌, ◌-◌, ◌*◌, ◌/◌, ◌≤◌, ◌<◌}
+use Rattle.std.specs.declared.result.Result.{Result}
+use Rattle.std.specs.declared.result.Result.TheVariants.{Ok, Err}
 use mathlib.Core.Path.{◌≡◌, refl, sym, ap, ◌∙◌}
 use mathlib.Core.Logic.{◌≢◌}
 use mathlib.Core.List.{List, [], ◌∷◌, ◌++◌, append-nil}
@@ -12,11 +14,10 @@ use borrow.Author.Tests.{eqb-true, ne_eqb, not-false, lt-ltb, le-ltb, ltb-false}
 use Rattle.line.specs.Line.{rounds}
 use Rattle.line.specs.Width.{tables_length}
 use Rattle.line.proofs.LineLaws.{rounds_bound}
-use Rattle.refusal.specs.Cause.{code, written, given}
+use Rattle.refusal.specs.Cause.{code, written, given, no_cause, answered, single, values}
 use Rattle.refusal.specs.declared.cause.Cause.{Cause}
 use Rattle.refusal.specs.declared.cause.Cause.TheVariants.{Length, TooManyRecords}
-use Rattle.refusal.specs.declared.cause.Verdict.{Verdict}
-use Rattle.refusal.specs.declared.cause.Verdict.TheVariants as verdict
+use Rattle.refusal.specs.Cause.{Verdict}
 use Rattle.refusal.proofs.VerdictLaws.{both_accepted, accepted_false, refused_true, refused_false}
 use Rattle.header.specs.Header.{exact_length}
 use Rattle.header.proofs.HeaderLaws.{length_accepts}
@@ -27,10 +28,6 @@ use Rattle.reader.specs.Loops.{SoundHeader}
 use Rattle.reader.proofs.PromiseLaws.{opening_sound, opening_length}
 use Rattle.text.specs.Laid.{laid}
 use Rattle.text.proofs.LaidLaws.{laid_append, laid_front}
-use Rattle.writer.specs.declared.Need.{Need}
-use Rattle.writer.specs.declared.Need.TheVariants as need
-use Rattle.writer.specs.declared.Writing.{Writing}
-use Rattle.writer.specs.declared.Writing.TheVariants as writing
 use Rattle.selection.specs.Places.{to_write, how_many}
 use Rattle.selection.specs.Counted.{counted}
 use Rattle.selection.proofs.CountingLaws.{counted_all}
@@ -39,7 +36,7 @@ use Rattle.record.specs.Put.{header_in}
 use Rattle.record.proofs.PutLaws.{header_there}
 use Rattle.writer.specs.Sheet.{records_bytes, sheet, sheet_length}
 use Rattle.writer.specs.Judgement.{header_and_table, too_many, before_buffer, write_verdict}
-use Rattle.writer.specs.Writing.{need_number, need_values, need_by, writing_number, writing_values, writing_by, Needs, Writes}
+use Rattle.writer.specs.Writing.{Needs, Writes}
 use Rattle.writer.specs.Loops.{Unrefused, Goes_on}
 use Rattle.writer.proofs.RecordLaws.{records_length, records_none}
 use Rattle.line.proofs.CountLaws.{count_zero}
@@ -55,14 +52,14 @@ unfolding sheet
 parts_whole h table k is = rw is
 
 -- a length that is not the wanted one is refused
-length_refused : (wanted found : ℕ) → found ≢ wanted → exact_length wanted found ≡ verdict.Refused Length
+length_refused : (wanted found : ℕ) → found ≢ wanted → exact_length wanted found ≡ Err Length
 unfolding exact_length
 length_refused wanted found e = refused_true Length (rw (ne_eqb found wanted e))
 
 -- ---- what causes 1, 15 and 2 to 8 let through
 
-module _ (h : List ℕ) (l : ℕ) (e : header_and_table h l ≡ verdict.Accepted) where
-  pub taken_both : (header_length h ≡ verdict.Accepted) × (verdict_to_8 h l ≡ verdict.Accepted)
+module _ (h : List ℕ) (l : ℕ) (e : header_and_table h l ≡ no_cause) where
+  pub taken_both : (header_length h ≡ no_cause) × (verdict_to_8 h l ≡ no_cause)
   unfolding header_and_table
   taken_both = both_accepted _ _ e
 
@@ -81,64 +78,64 @@ module _ (h : List ℕ) (l : ℕ) (e : header_and_table h l ≡ verdict.Accepted
 
 module _ (h table : List ℕ) where
   -- what is counted is what is to be written
-  pub taken_counted : header_and_table h (length table) ≡ verdict.Accepted → counted (header h) table ≡ how_many (header h) table
+  pub taken_counted : header_and_table h (length table) ≡ no_cause → counted (header h) table ≡ how_many (header h) table
   taken_counted e = counted_all (header h) table (taken_sound h (length table) e).most (taken_length h (length table) e)
 
   -- what is not refused before the buffer is looked at
-  pub before_both : before_buffer h table ≡ verdict.Accepted → (header_and_table h (length table) ≡ verdict.Accepted) × (too_many h table ≡ verdict.Accepted)
+  pub before_both : before_buffer h table ≡ no_cause → (header_and_table h (length table) ≡ no_cause) × (too_many h table ≡ no_cause)
   unfolding before_buffer
   before_both e = both_accepted _ _ e
 
-  pub before_few : before_buffer h table ≡ verdict.Accepted → how_many (header h) table ≤ 4096
+  pub before_few : before_buffer h table ≡ no_cause → how_many (header h) table ≤ 4096
   unfolding too_many
   before_few e = ltb-false most_records (how_many (header h) table) (accepted_false _ _ (before_both e).1)
 
   -- ---- how many bytes are needed
 
-  needs_by : (v : Verdict) (answer : Need) → before_buffer h table ≡ v → answer ≡ need_by v (sheet_length h table) → Needs h table answer
+  needs_by : (v : Verdict) (answer : Result ℕ Cause) → before_buffer h table ≡ v → answer ≡ answered v (sheet_length h table) → Needs h table answer
   needs_by v answer e a = record { answer_is = rw e a; number_is = rw (e, a) (number v); values_are = rw (e, a) (values v) }
     where
-      number : (v : Verdict) → need_number (need_by v (sheet_length h table)) ≡ code v
-      number verdict.Accepted = refl
-      number (verdict.Refused c) = refl
+      number : (v : Verdict) → code (answered v (sheet_length h table)) ≡ code v
+      number (Ok _) = refl
+      number (Err c) = refl
 
-      values : (v : Verdict) → need_values (need_by v (sheet_length h table)) ≡ given v (sheet_length h table ∷ [])
-      values verdict.Accepted = refl
-      values (verdict.Refused c) = refl
+      values : (v : Verdict) → (values single) (answered v (sheet_length h table)) ≡ given v (sheet_length h table ∷ [])
+      values (Ok _) = refl
+      values (Err c) = refl
 
-  pub needs_refused : (c : Cause) → header_and_table h (length table) ≡ verdict.Refused c → Needs h table (need.Refused c)
+  pub needs_refused : (c : Cause) → header_and_table h (length table) ≡ Err c → Needs h table (Err c)
   unfolding before_buffer
-  needs_refused c e = needs_by (verdict.Refused c) (need.Refused c) (rw e) refl
+  needs_refused c e = needs_by (Err c) (Err c) (rw e) refl
 
-  module _ (k : ℕ) (is : k ≡ how_many (header h) table) (e : header_and_table h (length table) ≡ verdict.Accepted) where
-    pub needs_fewer : 4096 < k → Needs h table (need.Refused TooManyRecords)
+  module _ (k : ℕ) (is : k ≡ how_many (header h) table) (e : header_and_table h (length table) ≡ no_cause) where
+    pub needs_fewer : 4096 < k → Needs h table (Err TooManyRecords)
     unfolding before_buffer too_many
-    needs_fewer l = needs_by (verdict.Refused TooManyRecords) _ (rw (e, ← is, refused_true TooManyRecords (lt-ltb most_records k l))) refl
+    needs_fewer l = needs_by (Err TooManyRecords) _ (rw (e, ← is, refused_true TooManyRecords (lt-ltb most_records k l))) refl
 
-    pub needs_bytes : k ≤ 4096 → Needs h table (need.Bytes (12 + 8 * k))
+    pub needs_bytes : k ≤ 4096 → Needs h table (Ok (12 + 8 * k))
     unfolding before_buffer too_many sheet_length
-    needs_bytes l = needs_by verdict.Accepted _ (rw (e, ← is, refused_false TooManyRecords (le-ltb most_records k l))) (rw is)
+    needs_bytes l = needs_by no_cause _ (rw (e, ← is, refused_false TooManyRecords (le-ltb most_records k l))) (rw is)
 
   -- ---- what the answer tells
 
-  abbrev verdict_told : Need → Verdict
-  verdict_told (need.Bytes l) = verdict.Accepted
-  verdict_told (need.Refused c) = verdict.Refused c
+  abbrev verdict_told : Result ℕ Cause → Verdict
+  verdict_told (Ok l) = no_cause
+  verdict_told (Err c) = Err c
 
-  abbrev bytes_told : Need → ℕ
-  bytes_told (need.Bytes l) = l
-  bytes_told (need.Refused c) = 0
+  abbrev bytes_told : Result ℕ Cause → ℕ
+  bytes_told (Ok l) = l
+  bytes_told (Err c) = 0
 
-  told_back : (v : Verdict) (l : ℕ) → verdict_told (need_by v l) ≡ v
-  told_back verdict.Accepted l = refl
-  told_back (verdict.Refused c) l = refl
+  told_back : (v : Verdict) (l : ℕ) → verdict_told (answered v l) ≡ v
+  told_back (Ok _) l = refl
+  told_back (Err c) l = refl
 
-  told_verdict : (answer : Need) → Needs h table answer → before_buffer h table ≡ verdict_told answer
+  told_verdict : (answer : Result ℕ Cause) → Needs h table answer → before_buffer h table ≡ verdict_told answer
   told_verdict answer n = sym (ap verdict_told n.answer_is ∙ told_back (before_buffer h table) (sheet_length h table))
 
-  module _ (l : ℕ) (n : Needs h table (need.Bytes l)) where
-    pub told_accepted : before_buffer h table ≡ verdict.Accepted
-    told_accepted = told_verdict (need.Bytes l) n
+  module _ (l : ℕ) (n : Needs h table (Ok l)) where
+    pub told_accepted : before_buffer h table ≡ no_cause
+    told_accepted = told_verdict (Ok l) n
 
     pub told_bytes : l ≡ sheet_length h table
     told_bytes = ap bytes_told n.answer_is ∙ rw told_accepted
@@ -149,30 +146,30 @@ module _ (h table : List ℕ) where
 
   -- ---- what is written
 
-  writes_by : (sheet₀ sheet₁ : List ℕ) (v : Verdict) (answer : Writing) → write_verdict h table (length sheet₀) ≡ v → answer ≡ writing_by v (how_many (header h) table)
+  writes_by : (sheet₀ sheet₁ : List ℕ) (v : Verdict) (answer : Result ℕ Cause) → write_verdict h table (length sheet₀) ≡ v → answer ≡ answered v (how_many (header h) table)
       → sheet₁ ≡ written v (sheet h table) sheet₀ → Writes h table sheet₀ sheet₁ answer
   writes_by sheet₀ sheet₁ v answer e a s =
       record { answer_is = rw e a; number_is = rw (e, a) (number v); values_are = rw (e, a) (values v); sheet_is = rw e s }
     where
-      number : (v : Verdict) → writing_number (writing_by v (how_many (header h) table)) ≡ code v
-      number verdict.Accepted = refl
-      number (verdict.Refused c) = refl
+      number : (v : Verdict) → code (answered v (how_many (header h) table)) ≡ code v
+      number (Ok _) = refl
+      number (Err c) = refl
 
-      values : (v : Verdict) → writing_values (writing_by v (how_many (header h) table)) ≡ given v (how_many (header h) table ∷ [])
-      values verdict.Accepted = refl
-      values (verdict.Refused c) = refl
+      values : (v : Verdict) → (values single) (answered v (how_many (header h) table)) ≡ given v (how_many (header h) table ∷ [])
+      values (Ok _) = refl
+      values (Err c) = refl
 
   -- refused before the buffer is looked at
-  pub writes_refused : (sheet : List ℕ) (c : Cause) → Needs h table (need.Refused c) → Writes h table sheet sheet (writing.Refused c)
+  pub writes_refused : (sheet : List ℕ) (c : Cause) → Needs h table (Err c) → Writes h table sheet sheet (Err c)
   unfolding write_verdict
-  writes_refused sheet c n = writes_by sheet sheet (verdict.Refused c) _ (rw (told_verdict (need.Refused c) n)) refl refl
+  writes_refused sheet c n = writes_by sheet sheet (Err c) _ (rw (told_verdict (Err c) n)) refl refl
 
-  module _ (l : ℕ) (n : Needs h table (need.Bytes l)) where
+  module _ (l : ℕ) (n : Needs h table (Ok l)) where
     -- by the buffer's length
-    pub writes_length : (sheet : List ℕ) → length sheet ≢ l → Writes h table sheet sheet (writing.Refused Length)
+    pub writes_length : (sheet : List ℕ) → length sheet ≢ l → Writes h table sheet sheet (Err Length)
     unfolding write_verdict
     writes_length sheet e =
-        writes_by sheet sheet (verdict.Refused Length) _
+        writes_by sheet sheet (Err Length) _
         (rw (told_accepted l n, length_refused (sheet_length h table) (length sheet) (λ q. e (q ∙ sym (told_bytes l n))))) refl refl
 
     -- the number of records
@@ -180,7 +177,7 @@ module _ (h table : List ℕ) where
     unfolding sheet_length
     told_records = omega (arith, told_bytes l n)
 
-    told_both : (header_and_table h (length table) ≡ verdict.Accepted) × (too_many h table ≡ verdict.Accepted)
+    told_both : (header_and_table h (length table) ≡ no_cause) × (too_many h table ≡ no_cause)
     told_both = before_both (told_accepted l n)
 
     told_few : how_many (header h) table ≤ 4096
@@ -210,10 +207,10 @@ module _ (h table : List ℕ) where
     }
 
     -- all of it is written
-    pub writes_sheet : (sheet₀ sheet₁ : List ℕ) → length sheet₀ ≡ l → sheet₁ ≡ sheet h table → Writes h table sheet₀ sheet₁ (writing.Written ((l - 12) / 8))
+    pub writes_sheet : (sheet₀ sheet₁ : List ℕ) → length sheet₀ ≡ l → sheet₁ ≡ sheet h table → Writes h table sheet₀ sheet₁ (Ok ((l - 12) / 8))
     unfolding write_verdict
     writes_sheet sheet₀ sheet₁ e s =
-        writes_by sheet₀ sheet₁ verdict.Accepted _ (rw (told_accepted l n, length_accepts (sheet_length h table) (length sheet₀) (e ∙ told_bytes l n))) (rw told_records) s
+        writes_by sheet₀ sheet₁ no_cause _ (rw (told_accepted l n, length_accepts (sheet_length h table) (length sheet₀) (e ∙ told_bytes l n))) (rw told_records) s
 
   -- ---- the whole sheet: the header, then all records
 

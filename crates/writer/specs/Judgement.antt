@@ -2,7 +2,7 @@
 use Rattle.std.specs.Prelude.{ℕ, List, ltb, length}
 use Rattle.refusal.specs.Cause.{refused_if, ◌or_else◌}
 use Rattle.refusal.specs.declared.cause.Cause.TheVariants.{TooManyRecords}
-use Rattle.refusal.specs.declared.cause.Verdict.{Verdict}
+use Rattle.refusal.specs.Cause.{Verdict}
 use Rattle.header.specs.Header.{exact_length}
 use Rattle.layout.specs.Layout.{header, most_records}
 use Rattle.judgement.specs.Judgement.{header_length, verdict_to_8}

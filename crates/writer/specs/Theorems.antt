@@ -1,8 +1,9 @@
 -- What is shown of the definitions. The statement has a name here, and proofs/Theorems.antt has the law that proves it. What is read of a written sheet crate
 -- normal has, and that the bytes to be written come in the tables' order crate selection.
 use Rattle.std.specs.Prelude.{ℕ, ◌<◌, ◌≡◌, ◌↔◌, List, length}
+use Rattle.refusal.specs.Cause.{no_cause}
+use Rattle.std.specs.declared.result.Result.TheVariants.{Err}
 use Rattle.refusal.specs.declared.cause.Cause.TheVariants.{TooManyRecords}
-use Rattle.refusal.specs.declared.cause.Verdict.TheVariants.{Accepted, Refused}
 use Rattle.layout.specs.Layout.{header, most_records}
 use Rattle.selection.specs.Places.{how_many}
 use Rattle.writer.specs.Judgement.{header_and_table, write_verdict}
@@ -11,5 +12,5 @@ use Rattle.writer.specs.Judgement.{header_and_table, write_verdict}
 abbrev pub RefusedBy14 : Type 0
 RefusedBy14 =
     (h table : List ℕ) (size : ℕ)
-    → (write_verdict h table size ≡ Refused TooManyRecords)
-    ↔ ((header_and_table h (length table) ≡ Accepted) × (most_records < how_many (header h) table))
+    → (write_verdict h table size ≡ Err TooManyRecords)
+    ↔ ((header_and_table h (length table) ≡ no_cause) × (most_records < how_many (header h) table))

@@ -9,11 +9,11 @@ pub found-requires : goal.found-requires
 found-requires c =
     let g = c.args in
     let L = logged g.line.n g.line.t g.line.upper g.sender g.log.now g.outcomes.now in
-    let accepted = sym c.judge-verdict.ensures ∙ c.in-Accepted.is in
+    let accepted = sym c.judge-verdict.ensures ∙ c.in-Ok.is in
     (checkable_alone L accepted, outcomes_whole L accepted)
 
-pub returns-in-Accepted : goal.returns-in-Accepted
-returns-in-Accepted c = checks _ _ (rw (← c.judge-verdict.ensures, c.in-Accepted.is, c.found.ensures))
+pub returns-in-Ok : goal.returns-in-Ok
+returns-in-Ok c = checks _ _ (rw (← c.judge-verdict.ensures, c.in-Ok.is, c.found.ensures))
 
-pub returns-in-Refused : goal.returns-in-Refused
-returns-in-Refused c = checks _ _ (rw (← c.judge-verdict.ensures, c.in-Refused.is))
+pub returns-in-Err : goal.returns-in-Err
+returns-in-Err c = checks _ _ (rw (← c.judge-verdict.ensures, c.in-Err.is))

@@ -3,12 +3,12 @@ use borrow.Author.Rules.{rules}
 use Rattle.controller.proofs.WordLaws.{told_as}
 use Rattle.controller.proofs.vembopu_ballot.Goals as goal
 
-pub returns-in-Ballot : goal.returns-in-Ballot
-returns-in-Ballot c =
-    told_as _ _ _ _ _ _ _ _ c.station.ensures _ c.ballot-told.ensures
-    (rw c.in-Ballot.is c.answer.ensures)
+pub returns-in-Ok : goal.returns-in-Ok
+returns-in-Ok c =
+    told_as _ _ _ _ _ _ _ _ c.station.ensures _ c.ballot.ensures
+    (rw c.in-Ok.is c.answer.ensures)
 
-pub returns-in-Refused : goal.returns-in-Refused
-returns-in-Refused c =
-    told_as _ _ _ _ _ _ _ _ c.station.ensures _ c.ballot-told.ensures
-    (rw (c.in-Refused.is, ← c.number.ensures) c.answer-in-Refused.ensures)
+pub returns-in-Err : goal.returns-in-Err
+returns-in-Err c =
+    told_as _ _ _ _ _ _ _ _ c.station.ensures _ c.ballot.ensures
+    (rw (c.in-Err.is, ← c.number.ensures) c.answer-in-Err.ensures)

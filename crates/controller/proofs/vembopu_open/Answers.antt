@@ -3,12 +3,12 @@ use borrow.Author.Rules.{rules}
 use Rattle.controller.proofs.WordLaws.{opened_as}
 use Rattle.controller.proofs.vembopu_open.Goals as goal
 
-pub returns-in-Ready : goal.returns-in-Ready
-returns-in-Ready c =
-    opened_as _ _ _ _ _ _ _ _ c.open-opened.ensures
-    (rw (c.in-Ready.is, ← c.state.ensures) c.answer.ensures)
+pub returns-in-Ok : goal.returns-in-Ok
+returns-in-Ok c =
+    opened_as _ _ _ _ _ _ _ _ c.open.ensures
+    (rw (c.in-Ok.is, ← c.state.ensures) c.answer.ensures)
 
-pub returns-in-Refused : goal.returns-in-Refused
-returns-in-Refused c =
-    opened_as _ _ _ _ _ _ _ _ c.open-opened.ensures
-    (rw (c.in-Refused.is, ← c.number.ensures) c.answer-in-Refused.ensures)
+pub returns-in-Err : goal.returns-in-Err
+returns-in-Err c =
+    opened_as _ _ _ _ _ _ _ _ c.open.ensures
+    (rw (c.in-Err.is, ← c.number.ensures) c.answer-in-Err.ensures)

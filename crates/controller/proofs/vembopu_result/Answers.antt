@@ -3,17 +3,12 @@ use borrow.Author.Rules.{rules}
 use Rattle.controller.proofs.WordLaws.{result_as}
 use Rattle.controller.proofs.vembopu_result.Goals as goal
 
-pub returns-in-Running : goal.returns-in-Running
-returns-in-Running c =
-    result_as _ _ _ _ _ _ _ _ c.station.ensures _ c.result-found.ensures
-    (rw (c.in-Running.is, ← c.five.ensures) c.answer.ensures)
+pub returns-in-Ok : goal.returns-in-Ok
+returns-in-Ok c =
+    result_as _ _ _ _ _ _ _ _ c.station.ensures _ c.result.ensures
+    (rw (c.in-Ok.is, ← c.result-in-Ok.ensures) c.answer.ensures)
 
-pub returns-in-Done : goal.returns-in-Done
-returns-in-Done c =
-    result_as _ _ _ _ _ _ _ _ c.station.ensures _ c.result-found.ensures
-    (rw (c.in-Done.is, ← c.five-in-Done.ensures) c.answer-in-Done.ensures)
-
-pub returns-in-Refused : goal.returns-in-Refused
-returns-in-Refused c =
-    result_as _ _ _ _ _ _ _ _ c.station.ensures _ c.result-found.ensures
-    (rw (c.in-Refused.is, ← c.number.ensures) c.answer-in-Refused.ensures)
+pub returns-in-Err : goal.returns-in-Err
+returns-in-Err c =
+    result_as _ _ _ _ _ _ _ _ c.station.ensures _ c.result.ensures
+    (rw (c.in-Err.is, ← c.number.ensures) c.answer-in-Err.ensures)

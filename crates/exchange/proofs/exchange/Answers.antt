@@ -7,13 +7,13 @@ pub write_outcomes-requires : goal.write_outcomes-requires
 write_outcomes-requires c =
     let g = c.args in
     ready g.line.n g.line.t g.line.upper g.marks g.inputs.now _ _ _
-    c.judge-verdict.ensures c.in-Accepted.is
+    c.judge-verdict.ensures c.in-Ok.is
 
-pub returns-in-Accepted : goal.returns-in-Accepted
-returns-in-Accepted c =
+pub returns-in-Ok : goal.returns-in-Ok
+returns-in-Ok c =
     let g = c.args in
     exchanged g.line.n g.line.t g.line.upper g.marks g.inputs.now g.table.now g.outcomes.now _ _ c.judge-verdict.ensures
-    (rw c.in-Accepted.is c.write_outcomes.ensures)
+    (rw c.in-Ok.is c.write_outcomes.ensures)
 
 pub returns-in_default : goal.returns-in_default
 returns-in_default c =

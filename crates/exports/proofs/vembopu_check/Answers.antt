@@ -2,12 +2,12 @@
 use borrow.Author.Rules.{rules}
 use Rattle.exports.proofs.vembopu_check.Goals as goal
 
-pub returns-in-Broke : goal.returns-in-Broke
-returns-in-Broke c =
+pub returns-in-Ok : goal.returns-in-Ok
+returns-in-Ok c =
     let n = c.check-checked in
-    record { answer = n.result; checks = n.ensures; word_is = rw c.in-Broke.is c.answer.ensures }
+    record { answer = n.result; checks = n.ensures; word_is = rw c.in-Ok.is c.answer.ensures }
 
-pub returns-in-Refused : goal.returns-in-Refused
-returns-in-Refused c =
+pub returns-in-Err : goal.returns-in-Err
+returns-in-Err c =
     let n = c.check-checked in
-    record { answer = n.result; checks = n.ensures; word_is = rw (c.in-Refused.is, ← c.number.ensures) c.answer-in-Refused.ensures }
+    record { answer = n.result; checks = n.ensures; word_is = rw (c.in-Err.is, ← c.number.ensures) c.answer-in-Err.ensures }

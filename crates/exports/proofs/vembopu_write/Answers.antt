@@ -2,12 +2,12 @@
 use borrow.Author.Rules.{rules}
 use Rattle.exports.proofs.vembopu_write.Goals as goal
 
-pub returns-in-Written : goal.returns-in-Written
-returns-in-Written c =
+pub returns-in-Ok : goal.returns-in-Ok
+returns-in-Ok c =
     let w = c.write-writing in
-    record { answer = w.result; writes = w.ensures; word_is = rw c.in-Written.is c.answer.ensures }
+    record { answer = w.result; writes = w.ensures; word_is = rw c.in-Ok.is c.answer.ensures }
 
-pub returns-in-Refused : goal.returns-in-Refused
-returns-in-Refused c =
+pub returns-in-Err : goal.returns-in-Err
+returns-in-Err c =
     let w = c.write-writing in
-    record { answer = w.result; writes = w.ensures; word_is = rw (c.in-Refused.is, ← c.number.ensures) c.answer-in-Refused.ensures }
+    record { answer = w.result; writes = w.ensures; word_is = rw (c.in-Err.is, ← c.number.ensures) c.answer-in-Err.ensures }

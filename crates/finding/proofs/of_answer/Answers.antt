@@ -2,8 +2,8 @@
 use borrow.Author.Rules.{rules}
 use Rattle.finding.proofs.of_answer.Goals as goal
 
-pub returns-in-Broke : goal.returns-in-Broke
-returns-in-Broke c = rw c.in-Broke.is c.of_set.ensures
+pub returns-in-Ok : goal.returns-in-Ok
+returns-in-Ok c = rw c.in-Ok.is c.of_set.ensures
 
-pub returns-in-Refused : goal.returns-in-Refused
-returns-in-Refused c = rw (c.in-Refused.is, ← c.number.ensures) c.of_refusal.ensures
+pub returns-in-Err : goal.returns-in-Err
+returns-in-Err c = rw (c.in-Err.is, ← c.number.ensures) c.of_refusal.ensures

@@ -1,9 +1,10 @@
--- `vembopu_advance_lent` meets its contract: what the step by value gives is stored, and nothing where the row is refused.
+-- `vembopu_advance_lent` meets its contract: what the call by value gives is stored, and nothing where the row is refused.
+use borrow.Author.Rules.{rules}
 use Rattle.lent.proofs.StepLaws.{lent_next, lent_refused}
 use Rattle.lent.proofs.vembopu_advance_lent.Goals as goal
 
-pub returns-in-Next : goal.returns-in-Next
-returns-in-Next c = lent_next _ _ c.in-Next.next c.in-Next.ensures
+pub returns-in-Ok : goal.returns-in-Ok
+returns-in-Ok c = lent_next _ _ c.advance.ensures c.in-Ok.is
 
-pub returns-in-Refused : goal.returns-in-Refused
-returns-in-Refused c = lent_refused _ _ c.in-Refused.k c.in-Refused.ensures
+pub returns-in-Err : goal.returns-in-Err
+returns-in-Err c = rw c.number.ensures (lent_refused _ _ c.advance.ensures c.in-Err.is)

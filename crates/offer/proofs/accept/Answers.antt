@@ -1,12 +1,13 @@
 -- `accept` meets its contract, by what `station::advance` promises.
-use borrow.Author.Rules.{rules}
+use Rattle.std.proofs.Common.{rules}
 use mathlib.Core.Path.{sym, ◌∙◌}
 use Rattle.offer.proofs.OfferLaws.{accepted_next, accepted_refused}
+use Rattle.offer.specs.Offers.{accepting_verdict}
 use Rattle.offer.proofs.accept.Goals as goal
 
-pub returns-in-Next : goal.returns-in-Next
-returns-in-Next c =
-    accepted_next _ _ (sym c.advance-advanced.ensures.answer ∙ c.in-Next.is) _ _ c.compared.ensures
+pub returns : goal.returns
+returns c = accepted_next _ _ {next = c.in_ok-next.next} (search rules) _ _ c.compared.ensures
 
-pub returns-in-Refused : goal.returns-in-Refused
-returns-in-Refused c = accepted_refused _ _ (sym c.advance-advanced.ensures.answer ∙ c.in-Refused.is) _
+pub returns-in_err-next : goal.returns-in_err-next
+unfolding accepting_verdict
+returns-in_err-next c = search (rules, accepted_refused)

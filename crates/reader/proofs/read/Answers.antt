@@ -7,10 +7,10 @@ use Rattle.reader.proofs.read.Goals as goal
 pub read_chain-requires : goal.read_chain-requires
 read_chain-requires c =
     let s = c.args.sheet.now in
-    opened_all s _ (sym c.to_8-verdict.ensures.answer_is ∙ c.in-Accepted.is)
+    opened_all s _ (sym c.to_8-verdict.ensures.answer_is ∙ c.in-Ok.is)
 
-pub returns-in-Accepted : goal.returns-in-Accepted
-returns-in-Accepted c = all_read _ _ _ _ (sym c.to_8-verdict.ensures.answer_is ∙ c.in-Accepted.is) c.read_chain.ensures
+pub returns-in-Ok : goal.returns-in-Ok
+returns-in-Ok c = all_read _ _ _ _ (sym c.to_8-verdict.ensures.answer_is ∙ c.in-Ok.is) c.read_chain.ensures
 
-pub returns-in-Refused : goal.returns-in-Refused
-returns-in-Refused c = refused_opening _ _ _ (sym c.to_8-verdict.ensures.answer_is ∙ c.in-Refused.is)
+pub returns-in-Err : goal.returns-in-Err
+returns-in-Err c = refused_opening _ _ _ (sym c.to_8-verdict.ensures.answer_is ∙ c.in-Err.is)

@@ -5,7 +5,7 @@ use Rattle.writer.proofs.PromiseLaws.{needs_refused}
 use Rattle.writer.proofs.needed.Goals as goal
 
 pub records_needed-requires : goal.records_needed-requires
-records_needed-requires c = sym c.header_and_table-verdict.ensures ∙ c.in-Accepted.is
+records_needed-requires c = sym c.header_and_table-verdict.ensures ∙ c.in-Ok.is
 
-pub returns-in-Refused : goal.returns-in-Refused
-returns-in-Refused c = needs_refused _ _ _ (sym c.header_and_table-verdict.ensures ∙ c.in-Refused.is)
+pub returns-in-Err : goal.returns-in-Err
+returns-in-Err c = needs_refused _ _ _ (sym c.header_and_table-verdict.ensures ∙ c.in-Err.is)

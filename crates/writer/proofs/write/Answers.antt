@@ -4,9 +4,9 @@ use Rattle.writer.proofs.PromiseLaws.{writes_refused}
 use Rattle.writer.proofs.write.Goals as goal
 
 pub write_needed-requires : goal.write_needed-requires
-write_needed-requires c = rw c.in-Bytes.is at c.needed-need.ensures
+write_needed-requires c = rw c.in-Ok.is at c.needed-need.ensures
 
-pub returns-in-Refused : goal.returns-in-Refused
-returns-in-Refused c =
+pub returns-in-Err : goal.returns-in-Err
+returns-in-Err c =
     let a = c.args in
-    writes_refused a.header.now a.table.now a.sheet.now _ (rw c.in-Refused.is at c.needed-need.ensures)
+    writes_refused a.header.now a.table.now a.sheet.now _ (rw c.in-Err.is at c.needed-need.ensures)

@@ -8,10 +8,10 @@ use Rattle.reader.specs.Loops.{record_by, place_by}
 use Rattle.reader.proofs.WalkLaws.{place_most}
 use Rattle.reader.proofs.walk.judge.Goals as goal
 
-pub returns-in-Refused : goal.returns-in-Refused
+pub returns-in-Err : goal.returns-in-Err
 unfolding record_by
-returns-in-Refused c = record {
-  verdict_is = rw (← c.numbers_verdict-verdict.ensures.answer_is, c.in-Refused.is);
+returns-in-Err c = record {
+  verdict_is = rw (← c.numbers_verdict-verdict.ensures.answer_is, c.in-Err.is);
   seen_is = λ e. never e;
   places_are = λ e. never e;
   ballots_are = λ e. never e;

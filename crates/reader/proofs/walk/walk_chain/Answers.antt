@@ -50,10 +50,10 @@ walk_on-requires c =
     let inv = c.loop-m.invariant in
     let here = true_record s c.loop-m.i (sym c.is_record.ensures ∙ c.if-not-is_record.false) in
     let room : c.loop-m.m < records s = omega (arith, inv.0, c.loop-m-test) in
-    going_hit s _ _ _ _ p.0 _ _ _ _ _ inv.1.1 here room _ c.record_at-record.ensures _ _ _ _ c.judge-verdict.ensures _ c.in-Refused.is
+    going_hit s _ _ _ _ p.0 _ _ _ _ _ inv.1.1 here room _ c.record_at-record.ensures _ _ _ _ c.judge-verdict.ensures _ c.in-Err.is
 
-pub returns-in-Refused : goal.returns-in-Refused
-returns-in-Refused c =
+pub returns-in-Err : goal.returns-in-Err
+returns-in-Err c =
     let s = c.args.sheet.now in
     fated_told s c.judge-verdict.new.places c.judge-verdict.new.ballots c.walk_on.result c.walk_on.ensures
 
