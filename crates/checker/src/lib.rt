@@ -21,6 +21,7 @@ struct Course {
 }
 
 // Causes 2, 3, 4 and 8, the lowest first.
+#[tactic(auto, unfolding(crate::specs::Promise::check_verdict))]
 fn judge(line: Line, sender: u8, log_len: usize, outcomes_len: usize) -> Verdict
     ensures { result ≡ check_verdict line.n line.t line.upper sender log_len outcomes_len }
 {

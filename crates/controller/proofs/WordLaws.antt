@@ -1,10 +1,11 @@
 -- What a call by value promises, said of its answer as a number. Assumes nothing.
 use Prim.Native.Nat.{ℕ}
+use Rattle.std.specs.Result.{result_unwrap_or}
 use Rattle.refusal.specs.declared.cause.Cause.{Cause}
 use Rattle.std.specs.declared.result.Result.{Result}
 use mathlib.Core.Path.{◌≡◌}
 use mathlib.Core.List.{List}
-use Rattle.refusal.specs.Cause.{answer_word, code, value_or_0}
+use Rattle.refusal.specs.Cause.{answer_word, code}
 use Rattle.state.specs.declared.Station.{Station}
 use Rattle.station.specs.declared.StationResult.{StationResult}
 use Rattle.station.specs.Answers.{Opens, Tells, Advances, Results}
@@ -16,7 +17,7 @@ module _ (n t T sender own : ℕ) where
   opened_as value r o p e = record { answer = rw (← p.answer) e }
 
   module _ (state r : ℕ) (s : Station) (q : s ≡ station_of n t T sender own state) where
-    pub told_as : (o : Result ℕ Cause) → Tells s o → r ≡ answer_word (code o) (value_or_0 o) → BallotAnswer n t T sender own state r
+    pub told_as : (o : Result ℕ Cause) → Tells s o → r ≡ answer_word (code o) (result_unwrap_or o 0) → BallotAnswer n t T sender own state r
     told_as o p e = record { answer = rw (← q, ← p.answer) e }
 
     pub advanced_as : (row : List ℕ) (o : Result Station Cause) → Advances s row o → r ≡ answer_word (code o) (advanced_word s o)

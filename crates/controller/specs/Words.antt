@@ -1,10 +1,11 @@
 -- A station and the answers of its calls as numbers, and what each call promises. What is answered is what the station's calls by value answer
 -- (crates/station/specs/Answers.antt): each case of their enums has its number and its values here.
 use Rattle.std.specs.Prelude.{ℕ, ◌+◌, ◌*◌, ◌/◌, ◌%◌, ◌≡◌, List}
+use Rattle.std.specs.Result.{result_unwrap_or}
 use Rattle.refusal.specs.declared.cause.Cause.{Cause}
 use Rattle.std.specs.declared.result.Result.{Result}
 use Rattle.std.specs.declared.result.Result.TheVariants.{Ok, Err}
-use Rattle.refusal.specs.Cause.{answer_word, code, value_or_0}
+use Rattle.refusal.specs.Cause.{answer_word, code}
 use Rattle.state.specs.declared.Station.{Station}
 use Rattle.station.specs.declared.StationResult.{StationResult}
 use Rattle.station.specs.declared.StationResult.TheVariants as station_result
@@ -60,7 +61,7 @@ pub record OpenAnswer (n t T sender own value r : ℕ) : Type 0 where
 
 -- `vembopu_ballot`: what `station::ballot` answers
 pub record BallotAnswer (n t T sender own state r : ℕ) : Type 0 where
-  pub answer : let o = ballot_answer (station_of n t T sender own state) in r ≡ answer_word (code o) (value_or_0 o)
+  pub answer : let o = ballot_answer (station_of n t T sender own state) in r ≡ answer_word (code o) (result_unwrap_or o 0)
 
 -- `vembopu_advance`: what `station::advance` answers
 pub record AdvanceAnswer (n t T sender own state : ℕ) (row : List ℕ) (r : ℕ) : Type 0 where

@@ -17,7 +17,7 @@ pub fn vembopu_open(n: u8, t: u8, upper: u8, sender: u8, own: u8, value: u8) -> 
     ensures { OpenAnswer n t upper sender own value result }
 {
     match station::open(n, t, upper, sender, own, value) {
-        Ok(s) => cause::answer(0, words::state(s)),
+        Ok(opened) => cause::answer(0, words::state(opened)),
         Err(cause) => cause::answer(cause.number(), 0),
     }
 }
@@ -26,10 +26,8 @@ pub fn vembopu_open(n: u8, t: u8, upper: u8, sender: u8, own: u8, value: u8) -> 
 pub fn vembopu_ballot(n: u8, t: u8, upper: u8, sender: u8, own: u8, state: u64) -> u64
     ensures { BallotAnswer n t upper sender own state result }
 {
-    match station::ballot(words::station(n, t, upper, sender, own, state)) {
-        Ok(ballot) => cause::answer(0, ballot as u64),
-        Err(cause) => cause::answer(cause.number(), 0),
-    }
+    let told = station::ballot(words::station(n, t, upper, sender, own, state));
+    cause::answer(cause::code(told), told.unwrap_or(0) as u64)
 }
 
 // The state after the row received in the current round; the state handed in where it is refused.
@@ -38,7 +36,7 @@ pub fn vembopu_advance(n: u8, t: u8, upper: u8, sender: u8, own: u8, state: u64,
 {
     let before = words::station(n, t, upper, sender, own, state);
     match station::advance(before, row) {
-        Ok(s) => cause::answer(0, words::state(s)),
+        Ok(next) => cause::answer(0, words::state(next)),
         Err(cause) => cause::answer(cause.number(), words::state(before)),
     }
 }

@@ -65,6 +65,7 @@ fn judge_lengths(line: Line, inputs_len: usize, table_len: usize, outcomes_len: 
 }
 
 // Causes 2, 3, 5, 6 and 8, the lowest first.
+#[tactic(auto, unfolding(crate::specs::Promise::exchange_verdict))]
 fn judge(line: Line, marks: u32, inputs: &[u8], table_len: usize, outcomes_len: usize) -> Verdict
     ensures { result ≡ exchange_verdict line.n line.t line.upper marks inputs.now table_len outcomes_len }
 {

@@ -1,10 +1,11 @@
 -- The promises of the exported calls: what the call by value promises of its answer, and that the number is that answer's.
 use Rattle.std.specs.Prelude.{ℕ, ◌≡◌, List}
+use Rattle.std.specs.Result.{result_unwrap_or}
 use Rattle.layout.specs.declared.Header.{Header}
 use Rattle.refusal.specs.declared.cause.Cause.{Cause}
 use Rattle.std.specs.declared.result.Result.{Result}
 use Rattle.std.specs.declared.result.Result.TheVariants.{Ok, Err}
-use Rattle.refusal.specs.Cause.{code, answer_word, value_or_0}
+use Rattle.refusal.specs.Cause.{code, answer_word}
 use Rattle.refusal.specs.Cause.{Verdict}
 use Rattle.generator.specs.Promise.{Generates}
 use Rattle.number.specs.Numbers.{NumberRun}
@@ -31,13 +32,13 @@ pub record ReadBitNumber (s : List ℕ) (b : ℕ) (table₀ table₁ : List ℕ)
 pub record NeedsWord (h table : List ℕ) (r : ℕ) : Type 0 where
   pub answer : Result ℕ Cause
   pub needs : Needs h table answer
-  pub word_is : r ≡ answer_word (code answer) (value_or_0 answer)
+  pub word_is : r ≡ answer_word (code answer) (result_unwrap_or answer 0)
 
 -- `vembopu_write`: what `writer::write` promises; the number of records below the refusal's number
 pub record WritesWord (h table sheet₀ sheet₁ : List ℕ) (r : ℕ) : Type 0 where
   pub answer : Result ℕ Cause
   pub writes : Writes h table sheet₀ sheet₁ answer
-  pub word_is : r ≡ answer_word (code answer) (value_or_0 answer)
+  pub word_is : r ≡ answer_word (code answer) (result_unwrap_or answer 0)
 
 -- `vembopu_generate`: what `generator::generate` promises
 pub record GeneratesNumber (h : List ℕ) (seed : ℕ) (table₀ table₁ : List ℕ) (r : ℕ) : Type 0 where
@@ -61,4 +62,4 @@ pub record ExchangedNumber (n t T marks : ℕ) (inputs table outcomes₀ outcome
 pub record ChecksWord (L : Logged) (r : ℕ) : Type 0 where
   pub answer : Result ℕ Cause
   pub checks : Checks L answer
-  pub word_is : r ≡ answer_word (code answer) (value_or_0 answer)
+  pub word_is : r ≡ answer_word (code answer) (result_unwrap_or answer 0)

@@ -32,10 +32,8 @@ pub extern "C" fn vembopu_read_bit(sheet: &[u8], bit: u8, table: &mut [u8]) -> u
 pub extern "C" fn vembopu_sheet_len(header: &[u8], table: &[u8]) -> u64
     ensures { NeedsWord header.now table.now result }
 {
-    match writer::needed(header, table) {
-        Ok(len) => cause::answer(0, len as u64),
-        Err(cause) => cause::answer(cause.number(), 0),
-    }
+    let needed = writer::needed(header, table);
+    cause::answer(cause::code(needed), needed.unwrap_or(0) as u64)
 }
 
 // Writes the sheet of a header and its run tables.
@@ -43,10 +41,8 @@ pub extern "C" fn vembopu_sheet_len(header: &[u8], table: &[u8]) -> u64
 pub extern "C" fn vembopu_write(header: &[u8], table: &[u8], sheet: &mut [u8]) -> u64
     ensures { WritesWord header.now table.now sheet.old sheet.new result }
 {
-    match writer::write(header, table, sheet) {
-        Ok(records) => cause::answer(0, records as u64),
-        Err(cause) => cause::answer(cause.number(), 0),
-    }
+    let written = writer::write(header, table, sheet);
+    cause::answer(cause::code(written), written.unwrap_or(0) as u64)
 }
 
 // Generates the run tables of all bits from a header and a seed.
@@ -115,8 +111,6 @@ pub extern "C" fn vembopu_check(
 ) -> u64
     ensures { ChecksWord (logged n t upper sender log.now outcomes.now) result }
 {
-    match checker::check(Line { n, t, upper }, sender, log, outcomes) {
-        Ok(marks) => cause::answer(0, marks as u64),
-        Err(cause) => cause::answer(cause.number(), 0),
-    }
+    let broke = checker::check(Line { n, t, upper }, sender, log, outcomes);
+    cause::answer(cause::code(broke), broke.unwrap_or(0) as u64)
 }

@@ -1,5 +1,5 @@
 -- What is shown of the line. Each statement has a name here, and proofs/Theorems.antt has the law that proves it.
-use Rattle.std.specs.Prelude.{◌≤◌, length}
+use Rattle.std.specs.Prelude.{ℕ, ◌≤◌, length}
 use Rattle.refusal.specs.declared.cause.Cause.{Cause}
 use Rattle.std.specs.declared.result.Result.{Result}
 use Rattle.finding.specs.Finding.{finding}

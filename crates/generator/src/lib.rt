@@ -25,6 +25,7 @@ pub fn fill(n: u8, marks: u32, state: u32, table: &mut [u8]) -> u32
 }
 
 // Cause 1 of the header's length, 15, 2 to 6 of the header, 16 of the seed, and 8 of the tables' length.
+#[tactic(auto, unfolding(crate::specs::Judgement::generate_verdict, crate::specs::Judgement::seed_some, judgement::specs::Judgement::header_length))]
 fn judge(header: &[u8], seed: u32, table_len: usize) -> Verdict
     ensures { result ≡ generate_verdict header.now seed table_len }
 {

@@ -34,6 +34,7 @@ pub fn to_6(sheet: &[u8]) -> Verdict
 }
 
 // Causes 1, 15 and 2 to 8, with a buffer for all bits' tables.
+#[tactic(auto, using(refusal::proofs::VerdictLaws::judged), unfolding(crate::specs::Judgement::verdict_to_8))]
 pub fn to_8(sheet: &[u8], table_len: usize) -> Verdict
     ensures { Judged (verdict_to_8 sheet.now table_len) result }
 {
@@ -50,6 +51,7 @@ fn bit_there(sheet: &[u8], b: u8) -> Verdict
 }
 
 // Causes 1, 15 and 2 to 8, with a buffer for one table, then 11 of the bit asked for.
+#[tactic(auto, using(refusal::proofs::VerdictLaws::judged), unfolding(crate::specs::Judgement::bit_to_8))]
 pub fn bit_to_8(sheet: &[u8], b: u8, table_len: usize) -> Verdict
     ensures { Judged (bit_to_8 sheet.now b table_len) result }
 {

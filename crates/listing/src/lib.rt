@@ -13,7 +13,7 @@ use line::{Line, width};
 fn rehearse_bit(header: Header, b: u8, table: &[u8], log: &mut [u8], outcomes: &mut [u8])
     ensures { BitRehearsed header b table.now log.old log.new outcomes.old outcomes.new }
 {
-    recipe::bit(
+    let _ = recipe::bit(
         header.line,
         header.sender,
         header.value,
@@ -37,7 +37,7 @@ fn next_bit(
     requires { BitsRun sheet.now header b table.old log.old outcomes.old × (b < bits header.w) }
     ensures { BitsRun sheet.now header (b + 1) table.new log.new outcomes.new }
 {
-    reader::read_bit(sheet, b, table);
+    let _ = reader::read_bit(sheet, b, table);
     rehearse_bit(header, b, table, log, outcomes);
 }
 

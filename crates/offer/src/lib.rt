@@ -91,6 +91,5 @@ pub fn show(s: Station, row: &[u8]) -> Result<Offer, Cause>
 pub fn accept(s: Station, row: &[u8], o: Offer) -> Result<Station, Cause>
     ensures { Accepts s row.now o result }
 {
-    let next = station::advance(s, row)?;
-    compared(next, o)
+    compared(station::advance(s, row)?, o)
 }

@@ -69,6 +69,7 @@ pub fn bit(
 }
 
 // Causes 15, 2 to 6 and 8, in this order.
+#[tactic(auto, unfolding(crate::specs::Promise::number_rehearsal_verdict))]
 fn judge(
     line: Line,
     sender: u8,
@@ -107,7 +108,7 @@ fn run(
     let mut at: usize = 0;
     while b < bits {
         let end = at + size;
-        bit(
+        let _ = bit(
             line,
             sender,
             number,

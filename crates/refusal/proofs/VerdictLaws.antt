@@ -7,6 +7,7 @@ use native.Mathlib.Omega.{arith}
 use mathlib.Core.Bool.{Bool, true, false, ◌||◌}
 use Rattle.refusal.specs.Cause.{number, code, Judged, refused_if, ◌or_else◌, no_cause, Verdict, answered, values, given}
 use Rattle.std.specs.declared.result.Result.{Result}
+use Rattle.std.specs.Result.{IsErr}
 use Rattle.refusal.specs.declared.cause.Cause.{Cause}
 use Rattle.refusal.specs.declared.cause.Cause.TheVariants.{SheetForm, StationCount, Thresholds, StationNumber, Value, MarkBeyond, StationState, Length, ChainLeaves, ChainRepeats, RecordForm, UnmarkedSender, Duplicate, TooManyRecords, Width, Seed, Offer}
 
@@ -27,6 +28,11 @@ code_by v a e = ap code e ∙ answered_code v a
 
 pub values_by : {A : Type 0} {r : Result A Cause} (list : A → List ℕ) (v : Verdict) (a : A) → r ≡ answered v a → values list r ≡ given v (list a)
 values_by list v a e = ap (values list) e ∙ answered_values list v a
+
+-- an answer that is an error has a cause
+pub some_cause : {A : Type 0} (r : Result A Cause) → IsErr r → (c : Cause) × (r ≡ Err c)
+some_cause (Ok a) e = let z : false ≡ true = e in absurd (let y : ◌≡◌ {A = ℕ} 0 1 = cc in omega arith)
+some_cause (Err c) e = (c, refl)
 
 pub refused_true : {test : Bool} (c : Cause) → test ≡ true → refused_if test c ≡ Err c
 unfolding refused_if

@@ -78,11 +78,6 @@ values list (Err c) = []
 abbrev pub single : ℕ → List ℕ
 single value = value ∷ []
 
--- its only value, 0 where it is a refusal
-abbrev pub value_or_0 : Result ℕ Cause → ℕ
-value_or_0 (Ok value) = value
-value_or_0 (Err c) = 0
-
 -- an answer as one number, for C: the documents' number, 0 where nothing is refused, in the highest of eight bytes, and the values in the seven below
 abbrev pub answer_word : ℕ → ℕ → ℕ
 answer_word number values = 72057594037927936 * number + values % 72057594037927936

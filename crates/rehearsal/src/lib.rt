@@ -12,6 +12,7 @@ use refusal::cause::Verdict;
 use round::Stations;
 
 // Causes 2 to 6 and 8, the lowest first.
+#[tactic(auto, unfolding(crate::specs::Promise::rehearsal_verdict))]
 fn judge(
     line: Line,
     sender: u8,

@@ -22,11 +22,13 @@ fn write(header: &[u8], table: &[u8], out: &mut [u8]) -> usize
     requires { (before_buffer header.now table.now ≡ no_cause) × (length out.old ≡ longest_sheet) }
     ensures { (result ≤ length out.new) × (take result out.new ≡ sheet header.now table.now) }
 {
-    let Ok(len) = writer::needed(header, table) else {
-        return 0;
-    };
-    let _ = writer::write(header, table, &mut out[..len]);
-    len
+    match writer::needed(header, table) {
+        Ok(len) => {
+            let _ = writer::write(header, table, &mut out[..len]);
+            len
+        }
+        Err(_) => 0,
+    }
 }
 
 // Reads a sheet into the tables of all bits, and writes what was read.

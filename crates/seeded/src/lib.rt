@@ -12,6 +12,7 @@ use refusal::cause;
 use refusal::cause::{Cause, Verdict};
 
 // Causes 15 and 2 to 6 of the header, 16 of the seed, and 8 of the table's, the log's and the outcomes' lengths.
+#[tactic(auto, unfolding(crate::specs::Promise::seed_verdict, generator::specs::Judgement::seed_some))]
 fn judge(
     header: Header,
     seed: u32,
@@ -48,7 +49,7 @@ fn next_bit(
     ensures { BitsRun header seed (b + 1) result table.new log.new outcomes.new }
 {
     let left = generator::fill(header.line.n, header.marks, state, table);
-    recipe::bit(
+    let _ = recipe::bit(
         header.line,
         header.sender,
         header.value,

@@ -18,7 +18,7 @@ use Rattle.refusal.specs.Cause.{code, written, given, no_cause, answered, single
 use Rattle.refusal.specs.declared.cause.Cause.{Cause}
 use Rattle.refusal.specs.declared.cause.Cause.TheVariants.{Length, TooManyRecords}
 use Rattle.refusal.specs.Cause.{Verdict}
-use Rattle.refusal.proofs.VerdictLaws.{both_accepted, accepted_false, refused_true, refused_false}
+use Rattle.refusal.proofs.VerdictLaws.{code_by, values_by, both_accepted, accepted_false, refused_true, refused_false}
 use Rattle.header.specs.Header.{exact_length}
 use Rattle.header.proofs.HeaderLaws.{length_accepts}
 use Rattle.layout.specs.declared.Header.{Header}
@@ -93,15 +93,9 @@ module _ (h table : List ℕ) where
   -- ---- how many bytes are needed
 
   needs_by : (v : Verdict) (answer : Result ℕ Cause) → before_buffer h table ≡ v → answer ≡ answered v (sheet_length h table) → Needs h table answer
-  needs_by v answer e a = record { answer_is = rw e a; number_is = rw (e, a) (number v); values_are = rw (e, a) (values v) }
-    where
-      number : (v : Verdict) → code (answered v (sheet_length h table)) ≡ code v
-      number (Ok _) = refl
-      number (Err c) = refl
-
-      values : (v : Verdict) → (values single) (answered v (sheet_length h table)) ≡ given v (sheet_length h table ∷ [])
-      values (Ok _) = refl
-      values (Err c) = refl
+  needs_by v answer e a =
+      let by = a ∙ ap (λ w. answered w (sheet_length h table)) (sym e) in
+      record { answer_is = by; number_is = code_by _ _ by; values_are = values_by single _ _ by }
 
   pub needs_refused : (c : Cause) → header_and_table h (length table) ≡ Err c → Needs h table (Err c)
   unfolding before_buffer
@@ -149,15 +143,8 @@ module _ (h table : List ℕ) where
   writes_by : (sheet₀ sheet₁ : List ℕ) (v : Verdict) (answer : Result ℕ Cause) → write_verdict h table (length sheet₀) ≡ v → answer ≡ answered v (how_many (header h) table)
       → sheet₁ ≡ written v (sheet h table) sheet₀ → Writes h table sheet₀ sheet₁ answer
   writes_by sheet₀ sheet₁ v answer e a s =
-      record { answer_is = rw e a; number_is = rw (e, a) (number v); values_are = rw (e, a) (values v); sheet_is = rw e s }
-    where
-      number : (v : Verdict) → code (answered v (how_many (header h) table)) ≡ code v
-      number (Ok _) = refl
-      number (Err c) = refl
-
-      values : (v : Verdict) → (values single) (answered v (how_many (header h) table)) ≡ given v (how_many (header h) table ∷ [])
-      values (Ok _) = refl
-      values (Err c) = refl
+      let by = a ∙ ap (λ w. answered w (how_many (header h) table)) (sym e) in
+      record { answer_is = by; number_is = code_by _ _ by; values_are = values_by single _ _ by; sheet_is = rw e s }
 
   -- refused before the buffer is looked at
   pub writes_refused : (sheet : List ℕ) (c : Cause) → Needs h table (Err c) → Writes h table sheet sheet (Err c)

@@ -25,7 +25,9 @@ fn records_needed(header: &[u8], table: &[u8]) -> Result<usize, Cause>
     ensures { Needs header.now table.now result }
 {
     let k = selection::count(layout::header_of(header), table);
-    cause::refused_if(layout::RECORDS < k, Cause::TooManyRecords)?;
+    if layout::RECORDS < k {
+        return Err(Cause::TooManyRecords);
+    }
     Ok(12 + 8 * k)
 }
 
@@ -42,7 +44,9 @@ fn write_needed(header: &[u8], table: &[u8], sheet: &mut [u8], len: usize) -> Re
     requires { Needs header.now table.now (Ok «len») }
     ensures { Writes header.now table.now sheet.old sheet.new result }
 {
-    header::exact_length(len, sheet.len())?;
+    if sheet.len() != len {
+        return Err(Cause::Length);
+    }
     let k = (len - 12) / 8;
     put::sheet(header, table, sheet, k);
     Ok(k)

@@ -1,7 +1,9 @@
 -- `check` meets its contract, case by case of the verdict.
-use borrow.Author.Rules.{rules}
+use Rattle.std.proofs.Common.{rules}
 use mathlib.Core.Path.{sym, ◌∙◌}
-use Rattle.checker.specs.Promise.{logged}
+use Rattle.checker.specs.Promise.{logged, verdict_of}
+use mathlib.Core.Path.{◌≡◌}
+use Rattle.refusal.specs.Cause.{no_cause}
 use Rattle.checker.proofs.AnswerLaws.{checkable_alone, outcomes_whole, checks}
 use Rattle.checker.proofs.check.Goals as goal
 
@@ -9,11 +11,11 @@ pub found-requires : goal.found-requires
 found-requires c =
     let g = c.args in
     let L = logged g.line.n g.line.t g.line.upper g.sender g.log.now g.outcomes.now in
-    let accepted = sym c.judge-verdict.ensures ∙ c.in-Ok.is in
+    let accepted : verdict_of L ≡ no_cause = search rules in
     (checkable_alone L accepted, outcomes_whole L accepted)
 
-pub returns-in-Ok : goal.returns-in-Ok
-returns-in-Ok c = checks _ _ (rw (← c.judge-verdict.ensures, c.in-Ok.is, c.found.ensures))
+pub returns : goal.returns
+returns c = checks _ _ (search rules)
 
-pub returns-in-Err : goal.returns-in-Err
-returns-in-Err c = checks _ _ (rw (← c.judge-verdict.ensures, c.in-Err.is))
+pub returns-in_err-judge : goal.returns-in_err-judge
+returns-in_err-judge c = checks _ _ (search rules)

@@ -6,8 +6,8 @@ use Rattle.offer.specs.Offers.{accepting_verdict}
 use Rattle.offer.proofs.accept.Goals as goal
 
 pub returns : goal.returns
-returns c = accepted_next _ _ {next = c.in_ok-next.next} (search rules) _ _ c.compared.ensures
+returns c = accepted_next _ _ {next = c.in_ok-advance.field-0} (search rules) _ _ c.compared.ensures
 
-pub returns-in_err-next : goal.returns-in_err-next
+pub returns-in_err-advance : goal.returns-in_err-advance
 unfolding accepting_verdict
-returns-in_err-next c = search (rules, accepted_refused)
+returns-in_err-advance c = search (rules, accepted_refused)

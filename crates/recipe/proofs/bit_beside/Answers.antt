@@ -1,16 +1,21 @@
 -- `bit_beside` meets its contract, case by case of the verdict.
 use Rattle.recipe.proofs.BitLaws.{alike, accepted, refused}
-use borrow.Author.Rules.{rules}
+use Rattle.std.proofs.Common.{rules}
+use mathlib.Core.Path.{◌≡◌}
+use Rattle.std.specs.declared.result.Result.TheVariants.{Err}
+use Rattle.refusal.proofs.VerdictLaws.{some_cause}
 use Rattle.recipe.proofs.bit_beside.Goals as goal
 
 pub add-requires : goal.add-requires
 add-requires c =
-    alike _ _ _ _ _ _ _ _ c.requires.0 c.requires.1 c.rehearse-verdict.ensures c.in-Ok.is
+    alike _ _ _ _ _ _ _ _ c.requires.0 c.requires.1 c.rehearse.ensures (search rules)
 
-pub returns-in-Ok : goal.returns-in-Ok
-returns-in-Ok c =
-    accepted _ _ _ _ _ _ _ _ c.requires.0 c.requires.1 c.rehearse-verdict.ensures _ c.in-Ok.is c.add.ensures
+pub returns : goal.returns
+returns c =
+    rw c.in_ok-rehearse.was at (accepted _ _ _ _ _ _ _ _ c.requires.0 c.requires.1 c.rehearse.ensures _ (search rules) c.add.ensures)
 
-pub returns-in_default : goal.returns-in_default
-returns-in_default c =
-    refused _ _ _ _ _ _ _ _ c.requires.0 c.requires.1 c.rehearse-verdict.ensures _ c.in_default.is
+pub returns-in_err-rehearse : goal.returns-in_err-rehearse
+returns-in_err-rehearse c =
+    let (k, e) = some_cause _ c.from_residual.ensures.0 in
+    let same : c.rehearse.result ≡ Err k = search rules in
+    rw (e, ← same) (refused _ _ _ _ _ _ _ _ c.requires.0 c.requires.1 c.rehearse.ensures k same)

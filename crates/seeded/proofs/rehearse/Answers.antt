@@ -1,16 +1,18 @@
 -- `rehearse` meets its contract, case by case of the verdict.
-use borrow.Author.Rules.{rules}
+use Rattle.std.proofs.Common.{rules}
 use mathlib.Core.Path.{sym, ◌∙◌}
 use Rattle.seeded.proofs.PromiseLaws.{begins, accepted, refused}
+use Rattle.refusal.proofs.VerdictLaws.{some_cause}
+use mathlib.Core.Path.{refl}
 use Rattle.seeded.proofs.rehearse.Goals as goal
 
 pub run-requires : goal.run-requires
-run-requires c =
-    begins _ _ _ _ _ (sym c.judge-verdict.ensures ∙ c.in-Ok.is)
+run-requires c = begins _ _ _ _ _ (search rules)
 
-pub returns-in-Ok : goal.returns-in-Ok
-returns-in-Ok c =
-    accepted _ _ _ _ _ c.judge-verdict.ensures _ _ _ c.in-Ok.is c.run.ensures
+pub returns : goal.returns
+returns c = accepted _ _ _ _ _ (search rules) _ _ _ refl c.run.ensures
 
-pub returns-in_default : goal.returns-in_default
-returns-in_default c = refused _ _ _ _ _ c.judge-verdict.ensures _ c.in_default.is
+pub returns-in_err-judge : goal.returns-in_err-judge
+returns-in_err-judge c =
+    let (k, e) = some_cause _ c.from_residual.ensures.0 in
+    refused _ _ _ _ _ (search rules) k e

@@ -6,12 +6,12 @@ use Rattle.seeds.proofs.list.Goals as goal
 
 pub list_header-requires : goal.list_header-requires
 list_header-requires c =
-    begun _ _ _ c.read_bit-reading.ensures c.requires.0 _ c.in-Ok.is _ c.requires.1 c.read_bit-reading.auto.table
+    begun _ _ _ c.read_bit.ensures c.requires.0 _ c.in-Ok.is _ c.requires.1 c.read_bit.auto.table
 
 pub returns-in-Ok : goal.returns-in-Ok
 returns-in-Ok c =
-    accepted_output _ _ _ c.read_bit-reading.ensures c.requires.0 _ c.in-Ok.is _ _ _ c.requires.2 c.list_header.ensures
+    accepted_output _ _ _ c.read_bit.ensures c.requires.0 _ c.in-Ok.is _ _ _ c.requires.2 c.list_header.ensures
 
 pub returns-in-Err : goal.returns-in-Err
 returns-in-Err c =
-    refused_output _ _ _ _ _ _ _ _ (refused _ _ _ c.read_bit-reading.ensures c.requires.0 _ c.in-Err.is) c.number.ensures (omega (arith, c.requires.2)) c.of_refusal.ensures
+    refused_output _ _ _ _ _ _ _ _ (refused _ _ _ c.read_bit.ensures c.requires.0 _ c.in-Err.is) c.number.ensures (omega (arith, c.requires.2)) c.of_refusal.ensures

@@ -1,9 +1,0 @@
--- `to_8` meets its contract: the causes are joined in their order.
-use borrow.Author.Rules.{rules}
-use Rattle.refusal.proofs.VerdictLaws.{judged}
-use Rattle.judgement.specs.Judgement.{verdict_to_8}
-use Rattle.judgement.proofs.to_8.Goals as goal
-
-pub returns : goal.returns
-unfolding verdict_to_8
-returns c = judged cc
