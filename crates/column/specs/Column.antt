@@ -1,5 +1,5 @@
 -- A round's bytes to one receiver, and how many of them are what is wanted of it. Stations are counted from 0. Bytes are laid out like a run table.
-use Rattle.std.specs.Prelude.{ℕ, ◌+◌, ◌*◌, ◌≤◌, ◌<◌, ◌≡◌, List, ◌&&◌, eqb, ltb, leb, length, get_or, if◌then◌else◌}
+use Rattle.std.specs.Prelude.{ℕ, ◌+◌, ◌*◌, ◌≤◌, ◌<◌, List, ◌&&◌, eqb, ltb, leb, length, get_or, if◌then◌else◌}
 use Rattle.line.specs.Count.{count}
 use Rattle.line.specs.Line.{has_round}
 
@@ -29,10 +29,6 @@ block_at bytes a j = if leb (a + 32) (length bytes) then get_or bytes (a + j) 0 
 
 -- ---- for private functions
 
--- byte j of a sender's n, which start at a
-unfoldable pub byte_to : List ℕ → ℕ → ℕ → ℕ
-byte_to bytes a j = get_or bytes (a + j) 0
-
 unfoldable pub hit : ℕ → ℕ → ℕ
 hit b v = if eqb b v then 1 else 0
 
@@ -41,9 +37,5 @@ unfoldable pub more : List ℕ → (ℕ → ℕ) → (ℕ → ℕ) → ℕ → �
 more counts row wanted j = get_or counts j 0 + hit (row j) (wanted j)
 
 -- the first m bytes of l are at most b
-unfoldable pub AtMost : ℕ → ℕ → List ℕ → Type 0
+abbrev pub AtMost : ℕ → ℕ → List ℕ → Type 0
 AtMost b m l = (j : ℕ) → j < m → get_or l j 0 ≤ b
-
--- from m on l is as l₀
-unfoldable pub Rest : ℕ → List ℕ → List ℕ → Type 0
-Rest m l l₀ = (k : ℕ) → m ≤ k → get_or l k 0 ≡ get_or l₀ k 0

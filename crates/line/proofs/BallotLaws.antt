@@ -5,33 +5,11 @@ use mathlib.Core.Bool.{Bool, true, false, not, ◌&&◌}
 use mathlib.Core.Logic.{◌⊎◌, inl, inr}
 use native.Mathlib.Omega.{arith}
 use lib.Dec.{leb, ltb, eqb}
-use borrow.Author.Tests.{le-leb, lt-leb, leb-true, leb-false, lt-ltb, le-ltb, eqb-true, eqb-false, eq-eqb, ne_eqb}
+use borrow.Author.Tests.{le-leb, lt-leb, leb-true, leb-false, lt-ltb, le-ltb, eqb-true, eqb-false}
 use Rattle.std.specs.Prelude.{if◌then◌else◌}
 use Rattle.line.specs.Ballot.{blank, silence, bit_round, blank_round, read_first, read_second, read_sender, read_king, is_garbled, bit_or, first_value, second_value, sender_value, king_value}
 use Rattle.line.specs.declared.ballot.Ballot.TheVariants.{Bit, Blank, Silence, Garbled}
 use Rattle.line.proofs.CountLaws.{if_true, if_false, le_or_lt}
-
--- ---- the two kinds of rounds, byte by byte
-
-pub bit_round_bit : (b : ℕ) → b ≤ 1 → bit_round b ≡ Bit b
-unfolding bit_round
-bit_round_bit b h = if_true _ _ (le-leb b 1 h)
-
-pub bit_round_silence : (b : ℕ) → b ≡ silence → bit_round b ≡ Silence
-unfolding bit_round
-bit_round_silence b h = if_false _ _ (lt-leb b 1 (omega (arith, h))) ∙ if_true _ _ (eq-eqb b silence h)
-
-pub bit_round_garbled : (b : ℕ) → 1 < b → (b ≡ silence → ⊥) → bit_round b ≡ Garbled
-unfolding bit_round
-bit_round_garbled b h k = if_false _ _ (lt-leb b 1 h) ∙ if_false _ _ (ne_eqb b silence k)
-
-pub blank_round_blank : (b : ℕ) → b ≡ blank → blank_round b ≡ Blank
-unfolding blank_round
-blank_round_blank b h = if_true _ _ (eq-eqb b blank h)
-
-pub blank_round_other : (b : ℕ) → (b ≡ blank → ⊥) → blank_round b ≡ bit_round b
-unfolding blank_round
-blank_round_other b h = if_false _ _ (ne_eqb b blank h)
 
 -- ---- which bytes are garbled
 

@@ -5,7 +5,7 @@ ghost use Rattle.line.specs.Ballot.{bit_round, blank_round, read_sender, read_fi
 use crate::Line;
 
 // Which it was: a bit; a blank, where the round has one; silence; or garbled, a byte that its round has no meaning for.
-#[derive(Clone, Copy)]
+#[derive(Clone, Copy, PartialEq, Eq, Debug)]
 pub enum Ballot {
     Bit(u8),
     Blank,
@@ -20,9 +20,7 @@ impl Ballot {
     {
         match self {
             Ballot::Bit(b) => b,
-            Ballot::Blank => d,
-            Ballot::Silence => d,
-            Ballot::Garbled => d,
+            Ballot::Blank | Ballot::Silence | Ballot::Garbled => d,
         }
     }
 
@@ -30,41 +28,37 @@ impl Ballot {
     pub fn garbled(self) -> u8
         ensures { result ≡ (if is_garbled self then 1 else 0) }
     {
-        match self {
-            Ballot::Bit(_) => 0,
-            Ballot::Blank => 0,
-            Ballot::Silence => 0,
-            Ballot::Garbled => 1,
-        }
+        u8::from(matches!(self, Ballot::Garbled))
     }
 }
 
 // In a round that has a meaning for 0 and 1 alone.
+#[tactic(auto, unfolding(crate::specs::Ballot::bit_round))]
 fn bit_round(b: u8) -> Ballot
     ensures { result ≡ bit_round b }
 {
-    if b <= 1 {
-        return Ballot::Bit(b);
-    }
-    if b == Line::SILENCE {
-        Ballot::Silence
-    } else {
-        Ballot::Garbled
+    match b {
+        0 | 1 => Ballot::Bit(b),
+        Line::SILENCE => Ballot::Silence,
+        _ => Ballot::Garbled,
     }
 }
 
 // In one that has a meaning for blank too.
+#[tactic(auto, unfolding(crate::specs::Ballot::blank_round))]
 fn blank_round(b: u8) -> Ballot
     ensures { result ≡ blank_round b }
 {
-    if b == Line::BLANK {
-        Ballot::Blank
-    } else {
-        bit_round(b)
+    match b {
+        Line::BLANK => Ballot::Blank,
+        _ => bit_round(b),
     }
 }
 
+// A reader for each kind of round, though three are alike: each promises its own definition, which says what that round means.
+
 // In round 1, from the sender.
+#[tactic(auto, unfolding(crate::specs::Ballot::read_sender))]
 pub fn read_sender(b: u8) -> Ballot
     ensures { result ≡ read_sender b }
 {
@@ -72,6 +66,7 @@ pub fn read_sender(b: u8) -> Ballot
 }
 
 // In the first round of a graded exchange.
+#[tactic(auto, unfolding(crate::specs::Ballot::read_first))]
 pub fn read_first(b: u8) -> Ballot
     ensures { result ≡ read_first b }
 {
@@ -79,6 +74,7 @@ pub fn read_first(b: u8) -> Ballot
 }
 
 // In the second round of a graded exchange.
+#[tactic(auto, unfolding(crate::specs::Ballot::read_second))]
 pub fn read_second(b: u8) -> Ballot
     ensures { result ≡ read_second b }
 {
@@ -86,6 +82,7 @@ pub fn read_second(b: u8) -> Ballot
 }
 
 // In the last round of a phase, from the king.
+#[tactic(auto, unfolding(crate::specs::Ballot::read_king))]
 pub fn read_king(b: u8) -> Ballot
     ensures { result ≡ read_king b }
 {

@@ -13,7 +13,7 @@ pub mod width;
 
 // A line of n stations with the thresholds t and T (document 01, "Names"). T is called upper in code, where names by convention are lower case.
 // Any bytes at all may stand in it: header::line_verdict judges them.
-#[derive(Clone, Copy)]
+#[derive(Clone, Copy, PartialEq, Eq, Debug)]
 pub struct Line {
     pub n: u8,
     pub t: u8,
@@ -31,7 +31,7 @@ impl Line {
     pub const SILENCE: u8 = 255;
 
     // Marks of all 32 stations.
-    pub const ALL: u32 = 4294967295;
+    pub const ALL: u32 = u32::MAX;
 
     // The longest run table of any accepted line, in bytes.
     pub const LARGEST_TABLE: usize = 36864;
@@ -40,26 +40,26 @@ impl Line {
     pub const BITS: u8 = 8;
 
     // The tables of all bits of the longest number on the longest line, in bytes.
-    pub const LARGEST_TABLES: usize = 294912;
+    pub const LARGEST_TABLES: usize = Line::BITS as usize * Line::LARGEST_TABLE;
 
     // The bytes of a station's outcome: value, grade, flag, and how many rounds had a garbled ballot.
     pub const OUTCOME: usize = 4;
 
     // The most bytes that the outcomes of a line have.
-    pub const LARGEST_OUTCOMES: usize = 128;
+    pub const LARGEST_OUTCOMES: usize = Line::OUTCOME * Line::STATIONS as usize;
 
     // R, the rounds of a broadcast.
     pub fn rounds(self) -> usize
         ensures { result ≡ rounds self.t }
     {
-        3 * (self.t as usize) + 6
+        3 * usize::from(self.t) + 6
     }
 
     // The bytes of a run table, and of a log.
     pub fn table_len(self) -> usize
         ensures { result ≡ table_length self.n self.t }
     {
-        let n = self.n as usize;
+        let n = usize::from(self.n);
         self.rounds() * n * n
     }
 
@@ -67,14 +67,14 @@ impl Line {
     pub fn tables_len(self, w: u8) -> usize
         ensures { result ≡ tables_length self.n self.t w }
     {
-        (width::bits(w) as usize) * self.table_len()
+        usize::from(width::bits(w)) * self.table_len()
     }
 
     // The bytes of a ballot table for one graded exchange.
     pub fn exchange_len(self) -> usize
         ensures { result ≡ exchange_length self.n }
     {
-        let n = self.n as usize;
+        let n = usize::from(self.n);
         2 * n * n
     }
 
@@ -82,21 +82,15 @@ impl Line {
     pub fn has_round(self, start: usize, len: usize) -> bool
         ensures { result ≡ has_round self.n start len }
     {
-        let n = self.n as usize;
-        if 32 < n {
-            return false;
-        }
-        if len < start {
-            return false;
-        }
-        n * n <= len - start
+        let n = usize::from(self.n);
+        self.n <= Line::STATIONS && start <= len && n * n <= len - start
     }
 
     // The bytes of all outcomes.
     pub fn outcomes_len(self) -> usize
         ensures { result ≡ outcomes_length self.n }
     {
-        Line::OUTCOME * (self.n as usize)
+        Line::OUTCOME * usize::from(self.n)
     }
 }
 

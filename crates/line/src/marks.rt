@@ -6,5 +6,5 @@ ghost use Rattle.line.specs.Marks.{marked};
 pub fn is_marked(marks: u32, k: u8) -> bool
     ensures { result ≡ marked marks k }
 {
-    if k < 32 { (marks >> k) % 2 == 1 } else { false }
+    k < 32 && (marks >> k) % 2 == 1
 }

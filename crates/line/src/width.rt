@@ -3,10 +3,11 @@ ghost use Rattle.std.specs.Prelude.{◌≡◌};
 ghost use Rattle.line.specs.Width.{bits, bit_of};
 
 // The bits of w, 0 standing for 1.
+#[tactic(auto, unfolding(crate::specs::Width::bits))]
 pub fn bits(w: u8) -> u8
     ensures { result ≡ bits w }
 {
-    if w == 0 { 1 } else { w }
+    w.max(1)
 }
 
 // Bit b of a number.

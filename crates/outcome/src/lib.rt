@@ -2,58 +2,31 @@
 #![tactic(auto)]
 
 ghost use Rattle.std.specs.Prelude.{◌≡◌, length};
-ghost use Rattle.line.specs.Writing.{over};
-ghost use Rattle.broadcast.specs.Exchange.{flag_of};
-ghost use Rattle.broadcast.specs.Bytes.{pick};
+ghost use Rattle.line.specs.Writing.{Each, over};
 ghost use Rattle.outcome.specs.Outcome.{outcome_byte, outcome_at, reach};
 
 use line::{Line, marks};
 
-// Byte d of a good station's outcome: value, grade, flag, and how many rounds had a garbled ballot.
-fn pick(value: u8, grade: u8, garbled: u8, d: usize) -> u8
-    ensures { result ≡ pick value grade (flag_of grade) garbled d }
-{
-    if d == 0 {
-        return value;
-    }
-    if d == 1 {
-        return grade;
-    }
-    if d == 2 { step::flag(grade) } else { garbled }
-}
-
-// Byte d of a station's outcome, 255 at a bad station.
-fn outcome_byte(bad: bool, value: u8, grade: u8, garbled: u8, d: usize) -> u8
-    ensures { result ≡ outcome_byte bad value grade garbled d }
+// A station's outcome: value, grade, flag, and how many rounds had a garbled ballot; 255 four times at a bad one.
+fn outcome(bad: bool, value: u8, grade: u8, garbled: u8) -> [u8; Line::OUTCOME]
+    ensures { Each 4 result (outcome_byte bad value grade garbled) }
 {
     if bad {
-        255
+        [255; Line::OUTCOME]
     } else {
-        pick(value, grade, garbled, d)
+        [value, grade, step::flag(grade), garbled]
     }
 }
 
-// How many bytes are written: those of 32 stations at most.
-fn reach(len: usize) -> usize
-    ensures { result ≡ reach len }
-{
-    if len <= Line::LARGEST_OUTCOMES {
-        len
-    } else {
-        Line::LARGEST_OUTCOMES
-    }
-}
-
-// A station's outcome after the other, as far as the buffer goes.
+// A station's outcome after the other, as far as the buffer goes: those of 32 stations at most.
 pub fn write(value: [u8; 32], grade: [u8; 32], garbled: [u8; 32], marks: u32, outcomes: &mut [u8])
     ensures { outcomes.new ≡ over outcomes.old 0 (reach (length outcomes.old)) (outcome_at value grade garbled marks) }
 {
-    let end = reach(outcomes.len());
-    let mut k: usize = 0;
-    while k < end {
+    let end = outcomes.len().min(Line::LARGEST_OUTCOMES);
+    for (k, byte) in outcomes[..end].iter_mut().enumerate() {
         let i = k / Line::OUTCOME;
         let bad = marks::is_marked(marks, i as u8);
-        outcomes[k] = outcome_byte(bad, value[i], grade[i], garbled[i], k % Line::OUTCOME);
-        k += 1;
+        let four = outcome(bad, value[i], grade[i], garbled[i]);
+        *byte = four[k % Line::OUTCOME];
     }
 }

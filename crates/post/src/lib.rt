@@ -12,8 +12,7 @@ fn post_same(log: &mut [u8], at: usize, n: usize, b: u8)
     requires { at + n ≤ length log.old }
     ensures { log.new ≡ over log.old at n (same b) }
 {
-    let end = at + n;
-    slices::fill(&mut log[at..end], b);
+    slices::fill(&mut log[at..at + n], b);
 }
 
 // A bad station's bytes are the table's, unread.
@@ -21,8 +20,7 @@ fn post_table(log: &mut [u8], table: &[u8], at: usize, n: usize)
     requires { (at + n ≤ length log.old) × (at + n ≤ length table.now) }
     ensures { log.new ≡ over log.old at n (from_table table.now at) }
 {
-    let end = at + n;
-    log[at..end].copy_from_slice(&table[at..end]);
+    log[at..at + n].copy_from_slice(&table[at..at + n]);
 }
 
 // Where the good stations end that say what station i says, one after the other from i on.
@@ -30,18 +28,12 @@ fn run_end(said: &[u8; 32], marks: u32, i: usize, n: usize) -> usize
     requires { (i < n) × (n ≤ 32) }
     ensures { (i < result) × (result ≤ n) × Alike said.now marks i result }
 {
-    let b = said[i];
-    let mut k = i + 1;
-    while k < n {
-        if marks::is_marked(marks, k as u8) {
+    for k in i + 1..n {
+        if marks::is_marked(marks, k as u8) || said[k] != said[i] {
             return k;
         }
-        if said[k] != b {
-            return k;
-        }
-        k += 1;
     }
-    k
+    n
 }
 
 // All senders' ballots of the round whose bytes start at `start`: good ones that say the same are written at once.
@@ -49,7 +41,7 @@ fn post_all(said: &[u8; 32], log: &mut [u8], table: &[u8], marks: u32, start: us
     requires { (n ≤ 32) × (start + n * n ≤ length log.old) × (start + n * n ≤ length table.now) }
     ensures { log.new ≡ over log.old start (n * n) (ballot_at said.now table.now marks start n) }
 {
-    let mut i: usize = 0;
+    let mut i = 0;
     while i < n {
         let at = start + i * n;
         if marks::is_marked(marks, i as u8) {
@@ -67,9 +59,7 @@ fn post_all(said: &[u8; 32], log: &mut [u8], table: &[u8], marks: u32, start: us
 pub fn round(line: Line, marks: u32, said: &[u8; 32], table: &[u8], log: &mut [u8], start: usize)
     ensures { log.new ≡ posted line.n marks said.now table.now log.old start }
 {
-    if line.has_round(start, log.len()) {
-        if line.has_round(start, table.len()) {
-            post_all(said, log, table, marks, start, line.n as usize);
-        }
+    if line.has_round(start, log.len()) && line.has_round(start, table.len()) {
+        post_all(said, log, table, marks, start, usize::from(line.n));
     }
 }

@@ -7,23 +7,19 @@ ghost use Rattle.std.specs.Prelude.{◌≡◌, ◌≤◌, min, length, get_or, r
 pub fn at(bytes: &[u8], place: usize) -> u8
     ensures { result ≡ get_or bytes.now place 0 }
 {
-    if place < bytes.len() { bytes[place] } else { 0 }
+    bytes.get(place).copied().unwrap_or(0)
 }
 
 // One byte everywhere.
 pub fn fill(bytes: &mut [u8], b: u8)
     ensures { bytes.new ≡ replicate (length bytes.old) b }
 {
-    let mut p: usize = 0;
-    while p < bytes.len() {
-        bytes[p] = b;
-        p += 1;
-    }
+    bytes.fill(b);
 }
 
 // The shorter of two lengths.
 pub fn shorter(len: usize, most: usize) -> usize
     ensures { (result ≡ min len most) × (result ≤ len) × (result ≤ most) }
 {
-    if len < most { len } else { most }
+    len.min(most)
 }

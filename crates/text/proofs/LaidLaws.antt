@@ -9,7 +9,7 @@ use native.Mathlib.Numerals.{add-one}
 use native.Mathlib.Omega.{arith}
 use lib.Dec.{ltb}
 use lib.ListN.{length, get_or, take, drop, set, length-set, length-append}
-use lib.Seq.{take-suc, take-length, take-append_seam, get_or-set_same, get_or-set_other, set_out, sets, sets-eq}
+use lib.Seq.{take-suc, take-append_seam, get_or-set_same, get_or-set_other, set_out, sets, sets-eq}
 use borrow.Author.Tests.{ltb-true, ltb-false}
 use Rattle.text.specs.Laid.{laid, last_place, after, Puts}
 use Rattle.text.specs.Theorems.{Lies}
@@ -161,6 +161,3 @@ puts_line p = rw append-nil p
 pub puts_turn : {l₀ l₁ l₂ : List ℕ} {a b c : ℕ} (xs : List ℕ) (i : ℕ) → i < length xs
     → Puts l₀ l₁ a (take i xs) b → Puts l₁ l₂ b (get_or xs i 0 ∷ []) c → Puts l₀ l₂ a (take (i + 1) xs) c
 puts_turn xs i h p q = rw (add-one, take-suc xs i 0) (puts_then p q)
-
-pub puts_all : {l₀ l₁ : List ℕ} {a b : ℕ} (xs : List ℕ) (i : ℕ) → i ≡ length xs → Puts l₀ l₁ a (take i xs) b → Puts l₀ l₁ a xs b
-puts_all xs i e p = rw (e, take-length) at p

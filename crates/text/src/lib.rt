@@ -1,17 +1,11 @@
 // Text put into a lent buffer, as far as the buffer goes. Each function puts its bytes from a place on and answers the place after them, also where that
-// is past the buffer's end, so that a text can be put piece by piece and its whole length is told.
+// is past the buffer's end, so that a text can be put piece by piece and its whole length is told. That is what `Puts` says, and no `write!` says it: so
+// decimals are printed here.
 #![tactic(auto)]
 
 ghost use Rattle.std.specs.Prelude.{◌≡◌, [], ◌∷◌, ◌<◌};
 ghost use Rattle.text.specs.Decimal.{space, digit, numeral};
-ghost use Rattle.text.specs.Laid.{after, Puts};
-
-// The place after one byte.
-fn next(at: usize) -> usize
-    ensures { result ≡ after at 1 }
-{
-    if at < usize::MAX { at + 1 } else { at }
-}
+ghost use Rattle.text.specs.Laid.{Puts};
 
 // A byte.
 pub fn byte(out: &mut [u8], at: usize, b: u8) -> usize
@@ -20,7 +14,7 @@ pub fn byte(out: &mut [u8], at: usize, b: u8) -> usize
     if at < out.len() {
         out[at] = b;
     }
-    next(at)
+    at.saturating_add(1)
 }
 
 // The bytes of a word.
@@ -28,10 +22,8 @@ pub fn word(out: &mut [u8], at: usize, bytes: &[u8]) -> usize
     ensures { Puts out.old out.new at bytes.now result }
 {
     let mut place = at;
-    let mut i: usize = 0;
-    while i < bytes.len() {
-        place = byte(out, place, bytes[i]);
-        i += 1;
+    for b in bytes {
+        place = byte(out, place, *b);
     }
     place
 }
@@ -40,7 +32,7 @@ fn digit(out: &mut [u8], at: usize, d: u64) -> usize
     requires { d < 10 }
     ensures { Puts out.old out.new at (digit d ∷ []) result }
 {
-    byte(out, at, 48 + d as u8)
+    byte(out, at, b'0' + d as u8)
 }
 
 // A number in decimal, without leading zeros.

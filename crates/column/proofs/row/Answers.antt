@@ -1,12 +1,9 @@
--- `row` meets its contract: the first n of 32 are those n.
-use borrow.Author.Rules.{rules}
-use Rattle.line.proofs.WritingLaws.{each_fewer}
-use Rattle.column.specs.Column.{byte_to}
+-- `row` meets its contract.
+use Rattle.column.proofs.ColumnLaws.{row_whole, row_short}
 use Rattle.column.proofs.row.Goals as goal
 
-pub returns-then-bytes-at-ge32 : goal.returns-then-bytes-at-ge32
-returns-then-bytes-at-ge32 c =
-    each_fewer 32 c.args.n _ (byte_to c.args.bytes.now c.args.at) c.requires.0 c.heard.ensures
+pub returns-in-Some : goal.returns-in-Some
+returns-in-Some c = row_whole _ _ c.in-Some.ensures.cases.same
 
-pub returns-else-bytes-at-ge32 : goal.returns-else-bytes-at-ge32
-returns-else-bytes-at-ge32 c = c.heard-else-bytes-at-ge32.ensures
+pub returns-in-None : goal.returns-in-None
+returns-in-None c = row_short _ _ c.copy_from_slice.ensures.after

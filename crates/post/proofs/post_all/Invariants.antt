@@ -1,15 +1,9 @@
 -- `post_all` meets its contract. The loop's invariant: the ballots of the senders before i are in the log.
-use borrow.Author.Rules.{rules}
-use native.Mathlib.Omega.{arith}
-use Prim.Native.Nat.{◌+◌, ◌*◌, ◌≤◌, ◌<◌, ◌-◌}
-use mathlib.Core.Path.{◌≡◌, refl, sym, ap, ◌∙◌}
-use native.Mathlib.Nat.{zero-mul, mul-le-mul_right}
-use lib.ListN.{length, get_or}
+use Prim.Native.Nat.{◌*◌, ◌≤◌, ◌-◌}
+use mathlib.Core.Path.{◌≡◌}
+use lib.ListN.{length}
 use Rattle.line.specs.Writing.{over}
-use Rattle.line.proofs.LineLaws.{product_fits, row_within, rows_between}
-use Rattle.line.proofs.WritingLaws.{over_none, over_length}
 use Rattle.post.specs.Posted.{ballot_at}
-use Rattle.post.proofs.PostLaws.{bad_turn, run_turn}
 use Rattle.post.proofs.post_all.Given as goal
 
 abbrev pub invariant-loop-i : goal.invariant-loop-i

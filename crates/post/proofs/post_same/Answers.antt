@@ -1,5 +1,4 @@
 -- `post_same` meets its contract.
-use borrow.Author.Rules.{rules}
 use native.Mathlib.Omega.{arith}
 use Prim.Native.Nat.{◌+◌, ◌-◌}
 use Rattle.line.proofs.WritingLaws.{over_filled}

@@ -9,6 +9,3 @@ overflow_mul-result c = product_fits {p = 771} {q = 255} (omega arith) (omega ar
 
 pub overflow_mul-result-2 : goal.overflow_mul-result-2
 overflow_mul-result-2 c = product_fits {p = 196605} {q = 255} (mul-le-mul {n₂ = 771} {m₂ = 255} (omega arith) (omega arith)) (omega arith) tt
-
-pub returns : goal.returns
-returns c = rw c.rounds.ensures

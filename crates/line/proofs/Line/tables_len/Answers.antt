@@ -9,6 +9,3 @@ overflow_mul-result c =
     product_fits {p = 255} {q = 50134275} (omega arith)
     (rw c.table_len.ensures (mul-le-mul {n₂ = 196605} {m₂ = 255} (mul-le-mul {n₂ = 771} {m₂ = 255} (omega arith) (omega arith)) (omega arith)))
     tt
-
-pub returns : goal.returns
-returns c = rw (c.table_len.ensures, c.bits.ensures)
