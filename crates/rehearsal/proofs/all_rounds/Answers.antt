@@ -12,9 +12,9 @@ loop-r-init c = rw c.opened-stations.ensures (opened_played _ _ c.requires)
 pub loop-r-preserved : goal.loop-r-preserved
 loop-r-preserved c =
     let plays = rw (c.part_of-part.ensures, add-one c.loop-r.r) at c.play-stations.ensures in
-    rw (add-one c.loop-r.r) (round_played _ _ c.requires c.loop-r.r (omega (arith, c.rounds-r-end.ensures)) c.loop-r.stations c.loop-r.log c.loop-r.invariant _ _ plays)
+    rw (add-one c.loop-r.r) (round_played _ _ c.requires c.loop-r.r (omega arith) c.loop-r.stations c.loop-r.log c.loop-r.invariant _ _ plays)
 
 pub returns : goal.returns
 returns c =
-    let e : c.loop-r.r ≡ rounds c.args.line.t = omega (arith, c.rounds-r-end.ensures) in
+    let e : c.loop-r.r ≡ rounds c.args.line.t = omega arith in
     rw e at c.loop-r.invariant
