@@ -7,14 +7,14 @@ use mathlib.Core.List.{List}
 use native.Mathlib.Omega.{arith}
 use native.Mathlib.Numerals.{add-one}
 use native.Mathlib.Nat.{zero-mul}
-use lib.ListN.{length, get_or, get_or-replicate}
+use lib.ListN.{length, get_or, replicate, get_or-replicate}
 use Rattle.line.specs.Count.{all}
 use Rattle.line.specs.Line.{from_0, rounds, table_length, place, has_round}
 use Rattle.line.specs.Marks.{all_marks}
 use Rattle.line.specs.Writing.{Each}
 use Rattle.line.proofs.CountLaws.{all_same}
 use Rattle.line.proofs.MarksLaws.{all_marked}
-use Rattle.line.proofs.LineLaws.{rounds_bound, table_bound, row_within, round_within, round_there}
+use Rattle.line.proofs.LineLaws.{rounds_bound, row_within, round_within, round_there}
 use Rattle.broadcast.specs.Broadcast.{part}
 use Rattle.broadcast.specs.Station.{ballot, at}
 use Rattle.broadcast.specs.Bytes.{column}
@@ -22,13 +22,13 @@ use Rattle.broadcast.proofs.BytesLaws.{at_tabulate, at_in_round}
 use Rattle.step.specs.Part.{as_part}
 use Rattle.column.specs.Column as columns
 use Rattle.round.specs.declared.Stations.{Stations}
-use Rattle.round.specs.Round.{state_at, said_by, speaker_within, Takes}
+use Rattle.round.specs.Round.{state_at, all_opened, said_by, speaker_within, Takes}
 use Rattle.round.proofs.RoundLaws.{says_ballot, takes_row, opened_at, speaker_in, can_take}
 use Rattle.compare.specs.Compare.{sends, unless_other, kept_on}
 use Rattle.compare.proofs.CompareLaws.{kept_there}
 use Rattle.rules.specs.Rules.{Logged, station, state, byte_is, bytes_are}
 use Rattle.checker.specs.declared.Course.{Course}
-use Rattle.checker.specs.Followed.{Checkable, Opened, Followed}
+use Rattle.checker.specs.Followed.{Checkable, Followed}
 
 -- one test after another
 both : (a b : Bool) → ◌≡◌ {A = ℕ} (if a then (if b then 1 else 0) else 0) (if (a && b) then 1 else 0)
@@ -36,21 +36,13 @@ both true b = refl
 both false b = refl
 
 module _ (L : Logged) (C : Checkable L) where
-  pub small : table_length L.n L.t ≤ 36864
-  small = table_bound L.n L.t L.T C.most C.fitting.fits
-
-  pub few_rounds : rounds L.t ≤ 36
+  few_rounds : rounds L.t ≤ 36
   few_rounds = rounds_bound L.n L.t L.T C.most C.fitting.fits
 
-  pub room : (m : ℕ) → m < rounds L.t → m * (L.n * L.n) + L.n * L.n ≤ table_length L.n L.t
+  room : (m : ℕ) → m < rounds L.t → m * (L.n * L.n) + L.n * L.n ≤ table_length L.n L.t
   room m h = round_within L.n L.t m h
 
-  -- the sender's first byte is within the log
-  pub first_within : from_0 L.sender * L.n < length L.log
-  first_within =
-      let row = row_within (from_0 L.sender) L.n L.n (omega (arith, C.fitting.sender_low, C.fitting.sender_high)) in
-      omega (arith, row, round_within L.n L.t 0 (omega arith), zero-mul (L.n * L.n), C.fitting.log_length, C.fitting.sender_low, C.fitting.sender_high)
-
+  -- the sender's first byte
   pub first_place : get_or L.log (from_0 L.sender * L.n) 0 ≡ at L.log (place L.n 1 (from_0 L.sender) 0)
   first_place =
       let e : 0 * (L.n * L.n) + from_0 L.sender * L.n + 0 ≡ from_0 L.sender * L.n = omega (arith, zero-mul (L.n * L.n)) in
@@ -82,7 +74,7 @@ module _ (L : Logged) (C : Checkable L) where
     stepped s' Q i h =
         takes_row L.n L.t L.T (from_0 L.sender) c.stations v m i (column L.n L.log i) (here i h)
         all_marks L.log (m * (L.n * L.n)) s'
-        (Q.takes (can_take L.n L.t L.T (from_0 L.sender) (as_part (part (suc m))) all_marks c.stations L.log (m * (L.n * L.n)) (speaker (suc m) (omega arith) (omega arith)) (there m left)))
+        (Q.takes (can_take L.n (from_0 L.sender) (as_part (part (suc m))) (m * (L.n * L.n)) (length L.log) (speaker (suc m) (omega arith) (omega arith)) (there m left)))
         h (speaker (suc m) (omega arith) (omega arith)) (there m left) (omega (arith, few_rounds)) (row_is i h)
         (λ k l unmarked _. absurd (true≢false (sym (all_marked k (omega (arith, C.most))) ∙ unmarked)))
 
@@ -116,10 +108,9 @@ module _ (L : Logged) (C : Checkable L) where
 
   -- ---- before the first round
 
-  pub opened_follows : (v : ℕ) (c : Course) → Opened v c → Followed L v 0 c
+  pub opened_follows : (v : ℕ) → Followed L v 0 (record { stations = all_opened (replicate 32 v); kept = replicate 32 1 })
   unfolding state station all
-  opened_follows v c O = record {
-    stations_are = λ i h.
-        rw (O.value_is, O.z_is, O.grade_is, O.garbled_is) (opened_at L.n L.t L.T (from_0 L.sender) v i (column L.n L.log i) (omega (arith, C.most)));
-    kept_are = λ i h. rw O.kept_is (get_or-replicate 32 i 1 0 (omega (arith, C.most)));
+  opened_follows v = record {
+    stations_are = λ i h. opened_at L.n L.t L.T (from_0 L.sender) v i (column L.n L.log i) (omega (arith, C.most));
+    kept_are = λ i h. get_or-replicate 32 i 1 0 (omega (arith, C.most));
   }

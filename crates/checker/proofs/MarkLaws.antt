@@ -1,11 +1,17 @@
 -- The marks that are put together are the set. Assumes nothing.
 use Rattle.std.specs.Prelude.{if◌then◌else◌}
-use Prim.Native.Nat.{ℕ, ◌+◌, ◌*◌, ◌<◌}
+use Prim.Native.Nat.{ℕ, suc, ◌+◌, ◌*◌, ◌≤◌, ◌<◌}
 use mathlib.Core.Path.{◌≡◌, refl, sym, ap, ◌∙◌}
 use mathlib.Core.Bool.{Bool, true, false, not, ◌&&◌}
-use mathlib.Core.List.{List, []}
+use mathlib.Core.List.{List, [], ◌∷◌}
 use native.Mathlib.Omega.{arith}
-use lib.ListN.{get_or}
+use lib.Dec.{eqb}
+use lib.ListN.{length, get_or, take, drop}
+use Rattle.std.proofs.Math.Bool.{and-true}
+use lib.Pointwise.{pointwise}
+use lib.Seq.{drop-cons}
+use borrow.Author.Tests.{eqb-true, eqb-false, eq-eqb, ne_eqb}
+use Rattle.broadcast.specs.Exchange.{flag_of}
 use Rattle.line.specs.Count.{all}
 use Rattle.line.specs.Line.{rounds, outcome_size}
 use Rattle.line.specs.Marks.{marks_of}
@@ -28,6 +34,26 @@ breach_is false b = refl
 ends_is : (s : State) (bytes : List ℕ) (i : ℕ) → ends_as s.value s.grade s.garbled bytes (outcome_size * i) ≡ outcome_is s bytes i
 unfolding ends_as outcome_is at
 ends_is s bytes i = refl
+
+either_way : (a b : ℕ) → eqb a b ≡ eqb b a
+either_way a b = go (eqb b a) refl
+  where
+    go : (c : Bool) → eqb b a ≡ c → eqb a b ≡ c
+    go true e = eq-eqb a b (sym (eqb-true b a e))
+    go false e = ne_eqb a b (λ q. eqb-false b a e (sym q))
+
+-- the four bytes of an outcome are compared at once
+pub ends_by_bytes : (value grade garbled : ℕ) (bytes : List ℕ) (k : ℕ) → k + 4 ≤ length bytes
+    → pointwise eqb (take 4 (drop k bytes)) (value ∷ grade ∷ flag_of grade ∷ garbled ∷ []) ≡ ends_as value grade garbled bytes k
+unfolding ends_as
+ends_by_bytes value grade garbled bytes k room =
+    let second : k + 1 ≡ suc k = omega arith in
+    let third : k + 2 ≡ suc (suc k) = omega arith in
+    let fourth : k + 3 ≡ suc (suc (suc k)) = omega arith in
+    let byte = get_or bytes in
+    rw (second, third, fourth)
+    (rw (drop-cons bytes k 0 (omega arith), drop-cons bytes (suc k) 0 (omega arith), drop-cons bytes (suc (suc k)) 0 (omega arith), drop-cons bytes (suc (suc (suc k))) 0 (omega arith))
+    (rw (either_way value (byte k 0), either_way grade (byte (suc k) 0), either_way (flag_of grade) (byte (suc (suc k)) 0), either_way garbled (byte (suc (suc (suc k))) 0), and-true (eqb (byte (suc (suc (suc k))) 0) garbled))))
 
 -- other outcomes have no part in how the stations are followed
 pub with_outcomes : (n t T sender : ℕ) (log outcomes : List ℕ) (v m : ℕ) (c : Course)

@@ -1,8 +1,8 @@
 -- What the private functions of the checker do: for their contracts, and no part of what the public call promises.
-use Rattle.std.specs.Prelude.{ℕ, suc, ◌+◌, ◌*◌, ◌<◌, ◌≤◌, ◌≡◌, Bool, ◌&&◌, not, List, eqb, get_or, replicate, if◌then◌else◌}
+use Rattle.std.specs.Prelude.{ℕ, ◌+◌, ◌*◌, ◌<◌, ◌≤◌, ◌≡◌, Bool, ◌&&◌, not, List, eqb, get_or, if◌then◌else◌}
 use Rattle.line.specs.Count.{all}
 use Rattle.line.specs.Line.{most_stations, from_0, place, outcome_size}
-use Rattle.line.specs.Ballot.{blank, sender_value}
+use Rattle.line.specs.Ballot.{sender_value}
 use Rattle.broadcast.specs.Exchange.{flag_of}
 use Rattle.broadcast.specs.Station.{at}
 use Rattle.round.specs.Round.{state_at}
@@ -19,22 +19,10 @@ pub record Checkable (L : Logged) : Type 0 where
 unfoldable pub tried_value : Logged → ℕ
 tried_value L = sender_value (at L.log (place L.n 1 (from_0 L.sender) 0))
 
--- before round 1
-pub record Opened (v : ℕ) (c : Course) : Type 0 where
-  pub value_is : c.stations.value ≡ replicate 32 v
-  pub z_is : c.stations.z ≡ replicate 32 blank
-  pub grade_is : c.stations.grade ≡ replicate 32 0
-  pub garbled_is : c.stations.garbled ≡ replicate 32 0
-  pub kept_is : c.kept ≡ replicate 32 1
-
 -- after m rounds of the log: each station is as its automaton is after m of its rows, and has sent what it should or not
 pub record Followed (L : Logged) (v m : ℕ) (c : Course) : Type 0 where
   pub stations_are : (i : ℕ) → i < L.n → state_at c.stations (m + 1) i ≡ state L i v m
   pub kept_are : (i : ℕ) → i < L.n → get_or c.kept i 0 ≡ (if all m (bytes_are L i v) then 1 else 0)
-
--- one round more, whatever the stations were opened with
-unfoldable pub FollowsOn : Logged → ℕ → Course → Course → Type 0
-FollowsOn L m c c' = (v : ℕ) → Followed L v m c → Followed L v (suc m) c'
 
 -- ---- the end
 

@@ -7,13 +7,13 @@ ghost use Rattle.line.specs.Line.{rounds, outcome_size, outcomes_length};
 ghost use Rattle.line.specs.Marks.{marks_of};
 ghost use Rattle.rules.specs.Rules.{broke};
 ghost use Rattle.checker.specs.Promise.{logged, check_verdict, Checks};
-ghost use Rattle.checker.specs.Followed.{Checkable, Opened, FollowsOn, Followed, tried_value, ends_as, breach, breaches};
+ghost use Rattle.checker.specs.Followed.{Checkable, Followed, tried_value, ends_as, breach, breaches};
 
 use line::{Line, ballot};
 use refusal::cause::{Cause, Verdict};
 use round::Stations;
 
-// The stations after some rounds, and 1 for each that has sent what it should.
+// The stations after some rounds, and 1 for each that has sent what it should, otherwise 0: bytes, as `compare::kept_on` takes and gives them.
 #[derive(Clone, Copy)]
 struct Course {
     stations: Stations,
@@ -41,57 +41,25 @@ fn tried_value(line: Line, sender: u8, log: &[u8]) -> u8
     step::x(heard)
 }
 
-// All stations before round 1, opened with the value, which matters only at the sender.
-fn opened(value: u8) -> Course
-    ensures { Opened value result }
-{
-    let value = [value; 32];
-    let z = [Line::BLANK; 32];
-    let grade = [0u8; 32];
-    let garbled = [0u8; 32];
-    let stations = Stations {
-        value,
-        z,
-        grade,
-        garbled,
-    };
-    let kept = [1u8; 32];
-    Course { stations, kept }
-}
-
-// One round more, after r of them, whose bytes start at `start`: what each station should send is held against the log, and each takes its row of the log,
-// in which any ballot may be garbled.
-fn follow(line: Line, sender: u8, course: Course, log: &[u8], r: u8, start: usize) -> Course
-    requires { (Checkable (logged line.n line.t line.upper sender log.now [])) × (r < rounds line.t) × (start ≡ r * (line.n * line.n)) }
-    ensures { FollowsOn (logged line.n line.t line.upper sender log.now []) r course result }
-{
-    let part = step::part_of(r + 1);
-    let stations = course.stations;
-    let value = stations.value;
-    let z = stations.z;
-    let said = all_stations::tell(sender - 1, part, value, z);
-    let before = course.kept;
-    let kept = compare::kept_on(line, &said, log, start, before);
-    let stations = round::take(line, sender - 1, part, Line::ALL, stations, log, start);
-    Course { stations, kept }
-}
-
-// All rounds, from the first to the last.
+// All rounds, from the first to the last: what each station should send is held against the log, and each takes its row of the log, in which any ballot may be
+// garbled. All are opened with the value that is tried, which matters only at the sender.
 fn all_rounds(line: Line, sender: u8, log: &[u8]) -> Course
     requires { Checkable (logged line.n line.t line.upper sender log.now []) }
     ensures { Followed (logged line.n line.t line.upper sender log.now []) (tried_value (logged line.n line.t line.upper sender log.now [])) (rounds line.t) result }
 {
     let n = line.n as usize;
     let size = n * n;
-    let last = line.rounds() as u8;
-    let mut course = opened(tried_value(line, sender, log));
-    let mut r: u8 = 0;
-    let mut start: usize = 0;
-    while r < last {
-        let next = follow(line, sender, course, log, r, start);
-        course = next;
-        start += size;
-        r += 1;
+    let mut course = Course {
+        stations: Stations::opened([tried_value(line, sender, log); 32]),
+        kept: [1; 32],
+    };
+    for r in 0..line.rounds() as u8 {
+        let part = step::part_of(r + 1);
+        let start = r as usize * size;
+        let s = course.stations;
+        let said = all_stations::tell(sender - 1, part, s.value, s.z);
+        course.kept = compare::kept_on(line, &said, log, start, course.kept);
+        course.stations = round::take(line, sender - 1, part, Line::ALL, s, log, start);
     }
     course
 }
@@ -101,26 +69,15 @@ fn ends_as(value: u8, grade: u8, garbled: u8, outcomes: &[u8], k: usize) -> bool
     requires { k + outcome_size ≤ length outcomes.now }
     ensures { result ≡ ends_as value grade garbled outcomes.now k }
 {
-    if value != outcomes[k] {
-        return false;
-    }
-    if grade != outcomes[k + 1] {
-        return false;
-    }
-    if step::flag(grade) != outcomes[k + 2] {
-        return false;
-    }
-    garbled == outcomes[k + 3]
+    outcomes[k..k + Line::OUTCOME] == [value, grade, step::flag(grade), garbled]
 }
 
-// 1 for a station that has sent or ended otherwise.
-fn breach(kept: u8, ends: bool) -> u32
-    ensures { result ≡ (if breach kept ends then 1 else 0) }
+// Whether a station has sent or ended otherwise.
+#[tactic(auto, unfolding(crate::specs::Followed::breach))]
+fn breach(kept: u8, ends: bool) -> bool
+    ensures { result ≡ breach kept ends }
 {
-    if kept == 0 {
-        return 1;
-    }
-    if ends { 0 } else { 1 }
+    kept == 0 || !ends
 }
 
 // The marks of the stations that have, the last station's first, so that the bits of the others move up.
@@ -128,17 +85,12 @@ fn breaches(n: usize, course: Course, outcomes: &[u8]) -> u32
     requires { (n ≤ 32) × (length outcomes.now ≡ outcomes_length n) }
     ensures { result ≡ marks_of n (breaches course.stations.value course.stations.grade course.stations.garbled course.kept outcomes.now) }
 {
-    let stations = course.stations;
-    let value = stations.value;
-    let grade = stations.grade;
-    let garbled = stations.garbled;
-    let kept = course.kept;
+    let s = course.stations;
     let mut marks: u32 = 0;
-    let mut i = n;
-    while 0 < i {
-        i -= 1;
-        let ends = ends_as(value[i], grade[i], garbled[i], outcomes, Line::OUTCOME * i);
-        marks = 2 * marks + breach(kept[i], ends);
+    for i in (0..n).rev() {
+        let k = Line::OUTCOME * i;
+        let ends = ends_as(s.value[i], s.grade[i], s.garbled[i], outcomes, k);
+        marks = 2 * marks + u32::from(breach(course.kept[i], ends));
     }
     marks
 }

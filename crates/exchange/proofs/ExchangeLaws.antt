@@ -1,9 +1,10 @@
 -- Laws of the exchange had alone: of its inputs, of its two rounds and outcomes, and of its judgement. Assumes nothing.
 use Rattle.std.specs.Prelude.{if◌then◌else◌}
-use Prim.Native.Nat.{ℕ, ◌+◌, ◌-◌, ◌*◌, ◌≤◌, ◌<◌}
+use Prim.Native.Nat.{ℕ, zero, suc, ◌+◌, ◌-◌, ◌*◌, ◌≤◌, ◌<◌}
 use mathlib.Core.Path.{◌≡◌, refl, sym, ap, ◌∙◌}
-use mathlib.Core.Bool.{Bool, true, false, not, ◌&&◌, true≢false}
-use mathlib.Core.List.{List}
+use mathlib.Core.Bool.{Bool, true, false, not, ◌&&◌, true≢false, cond}
+use mathlib.Core.List.{List, [], ◌∷◌}
+use Rattle.std.specs.List.{filter, enumerate_from}
 use native.Mathlib.Omega.{arith}
 use native.Mathlib.Nat.{zero-mul, one-mul, two-mul, add-mul, mul-le-mul}
 use lib.Dec.{ltb}
@@ -13,7 +14,7 @@ use Rattle.line.specs.Count.{count}
 use Rattle.line.specs.Line.{exchange_length, outcomes_length, place}
 use Rattle.line.specs.Marks.{marked}
 use Rattle.line.specs.Writing.{over, Each}
-use Rattle.line.proofs.CountLaws.{none_passes, count_zero, count_hit, count_miss, count_le}
+use Rattle.line.proofs.CountLaws.{none_passes, count_zero, count_same}
 use Rattle.line.proofs.LineLaws.{place_from_start, round_there}
 use Rattle.refusal.specs.Cause.{written, no_cause}
 use Rattle.header.specs.Header.{marks_within}
@@ -45,24 +46,31 @@ use Rattle.exchange.specs.Rounds.{Bits, Ready, Graded}
 
 -- ---- counting foreign inputs
 
-module _ (marks : ℕ) (inputs : List ℕ) where
-  pub foreign_none : 0 ≡ foreign_inputs 0 marks inputs
-  unfolding foreign_inputs
-  foreign_none = sym (count_zero _)
+-- one station more at the front
+count_first : (n : ℕ) (p : ℕ → Bool) → count (suc n) p ≡ (if p 0 then 1 else 0) + count n (λ k. p (suc k))
+unfolding count
+count_first zero p = refl
+count_first (suc n) p = omega (arith, count_first n p)
 
-  pub foreign_hit : (i : ℕ) → not (marked marks i) && ltb 1 (get_or inputs i 0) ≡ true
-      → foreign_inputs (i + 1) marks inputs ≡ foreign_inputs i marks inputs + 1
-  unfolding foreign_inputs at
-  foreign_hit i e = count_hit i _ e
+-- of a list's items, numbered from i on, as many pass as places of the list do
+passing : (q : ℕ × ℕ → Bool) (i : ℕ) (l : List ℕ) → length (filter q (enumerate_from i l)) ≡ count (length l) (λ k. q (i + k, get_or l k 0))
+passing q i [] = sym (count_zero _)
+passing q i (b ∷ l) =
+    let here : i + 0 ≡ i = omega arith in
+    let rest = count_same (length l) (λ k. q (i + 1 + k, get_or l k 0)) (λ k. q (i + suc k, get_or l k 0)) (λ k _. ap (λ (m : ℕ). q (m, get_or l k 0)) (omega arith)) in
+    go (q (i, b)) (passing q (i + 1) l ∙ rest) ∙ sym (rw here at (count_first (length l) (λ k. q (i + k, get_or (b ∷ l) k 0))))
+  where
+    go : (c : Bool) {n : ℕ} → length (filter q (enumerate_from (i + 1) l)) ≡ n
+        → length (cond c ((i, b) ∷ filter q (enumerate_from (i + 1) l)) (filter q (enumerate_from (i + 1) l))) ≡ (if c then 1 else 0) + n
+    go true e = omega (arith, e)
+    go false e = omega (arith, e)
 
-  pub foreign_miss : (i : ℕ) → not (marked marks i) && ltb 1 (get_or inputs i 0) ≡ false
-      → foreign_inputs (i + 1) marks inputs ≡ foreign_inputs i marks inputs
-  unfolding foreign_inputs at
-  foreign_miss i e = count_miss i _ e
-
-  pub foreign_le : (i : ℕ) → foreign_inputs i marks inputs ≤ i
-  unfolding foreign_inputs
-  foreign_le i = count_le i _
+pub foreign_counted : (marks : ℕ) (inputs : List ℕ)
+    → length (filter (λ (p : ℕ × ℕ). not (marked marks p.0) && ltb 1 p.1) (enumerate_from 0 inputs)) ≡ foreign_inputs (length inputs) marks inputs
+unfolding foreign_inputs at
+foreign_counted marks inputs =
+    passing (λ (p : ℕ × ℕ). not (marked marks p.0) && ltb 1 p.1) 0 inputs
+    ∙ count_same (length inputs) _ _ (λ k _. let e : 0 + k ≡ k = omega arith in rw e)
 
 -- ---- the two rounds
 

@@ -17,31 +17,16 @@ use refusal::cause::{Cause, Verdict};
 use round::Stations;
 use step::Part;
 
-// Whether it is an unmarked station's input and not 0 or 1.
-fn foreign(marked: bool, input: u8) -> bool
-    ensures { result ≡ (not marked && ltb 1 input) }
-{
-    if marked {
-        return false;
-    }
-    1 < input
-}
-
 // How many of the inputs are an unmarked station's and not 0 or 1. No line has more than 255 stations.
 fn count_foreign(marks: u32, inputs: &[u8]) -> usize
     requires { length inputs.now ≤ 255 }
     ensures { result ≡ foreign_inputs (length inputs.now) marks inputs.now }
 {
-    let mut count: usize = 0;
-    let mut i: usize = 0;
-    while i < inputs.len() {
-        let marked = marks::is_marked(marks, i as u8);
-        if foreign(marked, inputs[i]) {
-            count += 1;
-        }
-        i += 1;
-    }
-    count
+    inputs
+        .iter()
+        .enumerate()
+        .filter(|&(i, input)| !marks::is_marked(marks, i as u8) && 1 < *input)
+        .count()
 }
 
 // Cause 5.
@@ -75,17 +60,14 @@ fn judge(line: Line, marks: u32, inputs: &[u8], table_len: usize, outcomes_len: 
     judge_lengths(line, inputs.len(), table_len, outcomes_len)
 }
 
-// The first bytes of the inputs, of at most 32.
+// The inputs, at most 32, in an array.
+#[tactic(auto, unfolding(line::specs::Writing::Each, broadcast::specs::Station::at))]
 fn first_bytes(inputs: &[u8]) -> [u8; 32]
     requires { length inputs.now ≤ 32 }
     ensures { Each (length inputs.now) result (at inputs.now) }
 {
-    let mut x = [0u8; 32];
-    let mut i: usize = 0;
-    while i < inputs.len() {
-        x[i] = inputs[i];
-        i += 1;
-    }
+    let mut x = [0; 32];
+    x[..inputs.len()].copy_from_slice(inputs);
     x
 }
 
@@ -96,16 +78,7 @@ fn exchanged(line: Line, marks: u32, inputs: &[u8], table: &[u8]) -> Stations
 {
     let n = line.n as usize;
     let mut log = [0u8; 2048];
-    let value = first_bytes(inputs);
-    let z = [Line::BLANK; 32];
-    let grade = [0u8; 32];
-    let garbled = [0u8; 32];
-    let entered = Stations {
-        value,
-        z,
-        grade,
-        garbled,
-    };
+    let entered = Stations::opened(first_bytes(inputs));
     let chosen = round::play(line, 0, Part::First, entered, marks, table, &mut log, 0);
     round::play(line, 0, Part::Second, chosen, marks, table, &mut log, n * n)
 }
@@ -116,10 +89,7 @@ fn write_outcomes(line: Line, marks: u32, inputs: &[u8], table: &[u8], outcomes:
     ensures { outcomes.new ≡ exchange_outcomes line.n line.t line.upper marks inputs.now table.now }
 {
     let done = exchanged(line, marks, inputs, table);
-    let value = done.value;
-    let grade = done.grade;
-    let garbled = done.garbled;
-    outcome::write(value, grade, garbled, marks, outcomes);
+    outcome::write(done.value, done.grade, done.garbled, marks, outcomes);
 }
 
 // The exchange: an input byte for each station and a ballot table in, an outcome for each station out.

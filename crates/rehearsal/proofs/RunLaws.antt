@@ -16,7 +16,7 @@ use Rattle.line.specs.Ballot.{is_garbled}
 use Rattle.line.specs.Marks.{marked}
 use Rattle.line.specs.Writing.{over}
 use Rattle.line.proofs.CountLaws.{le_or_lt}
-use Rattle.line.proofs.LineLaws.{rounds_bound, table_bound, round_within, round_there}
+use Rattle.line.proofs.LineLaws.{rounds_bound, round_within, round_there}
 use Rattle.header.specs.Header.{Sound}
 use Rattle.broadcast.specs.Broadcast.{part, speaks, value_of, final_grade, final_flag}
 use Rattle.broadcast.specs.Garbled.{reading, garbled_rounds}
@@ -29,7 +29,7 @@ use Rattle.broadcast.proofs.Theorems.{log_bytes, good_ballots_readable, done_aft
 use Rattle.step.specs.Part.{as_part}
 use Rattle.column.specs.Column as columns
 use Rattle.round.specs.declared.Stations.{Stations}
-use Rattle.round.specs.Round.{state_at, said_by, speaker_within, playable, Plays}
+use Rattle.round.specs.Round.{state_at, all_opened, said_by, speaker_within, playable, Plays}
 use Rattle.round.proofs.RoundLaws.{says_ballot, takes_row, opened_at, speaker_in, played, playable_means, log_size, log_before, column_is}
 use Rattle.outcome.specs.Outcome.{outcome_at, reach}
 use Rattle.outcome.proofs.OutcomeLaws as outcome
@@ -53,13 +53,10 @@ module _ (R : Run) (bytes₀ : List ℕ) (ready : Playable R bytes₀) where
 
   -- ---- every round can be played
 
-  pub room : (m : ℕ) → m < rounds R.t → m * (R.n * R.n) + R.n * R.n ≤ table_length R.n R.t
+  room : (m : ℕ) → m < rounds R.t → m * (R.n * R.n) + R.n * R.n ≤ table_length R.n R.t
   room m h = round_within R.n R.t m h
 
-  pub small : table_length R.n R.t ≤ 36864
-  small = table_bound R.n R.t R.T header.most header.fits
-
-  pub few_rounds : rounds R.t ≤ 36
+  few_rounds : rounds R.t ≤ 36
   few_rounds = rounds_bound R.n R.t R.T header.most header.fits
 
   speaker : (r : ℕ) → 1 ≤ r → r ≤ rounds R.t → speaker_within R.n (from_0 R.sender) (as_part (part r)) ≡ true
@@ -164,7 +161,7 @@ module _ (R : Run) (bytes₀ : List ℕ) (ready : Playable R bytes₀) where
 
   -- ---- before the first round
 
-  pub opened_played : Played R 0 (record { value = replicate 32 R.value; z = replicate 32 2; grade = replicate 32 0; garbled = replicate 32 0 }) bytes₀
+  pub opened_played : Played R 0 (all_opened (replicate 32 R.value)) bytes₀
   unfolding setup
   opened_played = record {
     stations_are = λ i h g.

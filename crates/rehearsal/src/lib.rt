@@ -44,25 +44,11 @@ fn all_rounds(
 {
     let n = line.n as usize;
     let size = n * n;
-    let last = line.rounds() as u8;
-    let value = [value; 32];
-    let z = [Line::BLANK; 32];
-    let grade = [0u8; 32];
-    let garbled = [0u8; 32];
-    let mut stations = Stations {
-        value,
-        z,
-        grade,
-        garbled,
-    };
-    let mut r: u8 = 0;
-    let mut start: usize = 0;
-    while r < last {
+    let mut stations = Stations::opened([value; 32]);
+    for r in 0..line.rounds() as u8 {
         let part = step::part_of(r + 1);
-        let next = round::play(line, sender - 1, part, stations, marks, table, log, start);
-        stations = next;
-        start += size;
-        r += 1;
+        let start = r as usize * size;
+        stations = round::play(line, sender - 1, part, stations, marks, table, log, start);
     }
     stations
 }
@@ -81,10 +67,7 @@ fn run(
     ensures { Ran (run_of line.n line.t line.upper sender value marks table.now) log.new outcomes.new }
 {
     let done = all_rounds(line, sender, value, marks, table, log);
-    let value = done.value;
-    let grade = done.grade;
-    let garbled = done.garbled;
-    outcome::write(value, grade, garbled, marks, outcomes);
+    outcome::write(done.value, done.grade, done.garbled, marks, outcomes);
 }
 
 // The rehearsal of a broadcast by the sender, on a line whose marked stations send what the table has.

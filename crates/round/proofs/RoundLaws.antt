@@ -38,18 +38,20 @@ use Rattle.line.specs.Marks.{marked}
 use Rattle.post.proofs.PostLaws.{posted_as, posted_at, posted_before, posted_length}
 use Rattle.all_stations.specs.Counts.{votes_for}
 use Rattle.round.specs.declared.Stations.{Stations}
-use Rattle.round.specs.Round.{setup_at, state_at, said_by, Moves, Taken, speaker_within, takable, Takes, playable, Plays}
+use Rattle.round.specs.Round.{setup_at, state_at, all_opened, said_by, Taken, speaker_within, takable, playable, Plays}
 
 -- a line of at most 32 has all its stations in an array
 pub all_of : (n : ℕ) (l : List ℕ) (F : ℕ → ℕ) → n ≤ 32 → Each 32 l F → Each n l F
 all_of n l F h each = each_fewer 32 n l F h each
 
--- with each station's count from what is found for it, the round is taken
-pub noted_found : (n t T sender : ℕ) (p q : Part) (senders : ℕ) (s : Stations) (log : List ℕ) (start : ℕ) (l seen : List ℕ) (s' : Stations)
+-- with each station's count from what is found for it, and its column taken as part q, which p is, the round is taken
+pub taken_as : (n t T sender : ℕ) (p q : Part) (senders : ℕ) (s : Stations) (log : List ℕ) (start : ℕ) (l seen : List ℕ) (s' : Stations)
     → n ≤ 32 → Each 32 l (λ j. noted (get_or s.garbled j 0) (get_or seen j 0)) → Each n seen (found n senders sender p log start)
-    → p ≡ q → Moves n t T sender q s l log start s' → Taken n t T sender p senders s log start s'
-unfolding Each Moves Taken
-noted_found n t T sender p q senders s log start l seen s' most each is e moves =
+    → p ≡ q
+    → ((r j : ℕ) → j < n → state_at s' (r + 1) j ≡ moved (setup_at n t T sender j) (state_at s r j) (column log start n j) (get_or l j 0) (of_part q))
+    → Taken n t T sender p senders s log start s'
+unfolding Each Taken
+taken_as n t T sender p q senders s log start l seen s' most each is e moves =
     λ r j k.
     moves r j k
     ∙ ap (λ (g : ℕ). moved (setup_at n t T sender j) (state_at s r j) (column log start n j) g (of_part q)) (each j (omega arith) ∙ ap (noted (get_or s.garbled j 0)) (is j k))
@@ -156,7 +158,7 @@ module _ (n t T sender : ℕ) (s : Stations) (v m i : ℕ) (rows : ℕ → List 
 
 -- before the first
 pub opened_at : (n t T sender v i : ℕ) (rows : ℕ → List ℕ) → i < 32
-    → state_at (record { value = replicate 32 v; z = replicate 32 blank; grade = replicate 32 0; garbled = replicate 32 0 }) 1 i ≡ after (setup_at n t T sender i) v rows 0
+    → state_at (all_opened (replicate 32 v)) 1 i ≡ after (setup_at n t T sender i) v rows 0
 unfolding after opened
 opened_at n t T sender v i rows h =
     rw (get_or-replicate 32 i v 0 h, get_or-replicate {A = ℕ} 32 i blank 0 h, get_or-replicate {A = ℕ} 32 i 0 0 h)
@@ -170,33 +172,13 @@ speaker_in n t T sender fits within =
     (λ p h. rw (part_second p))
     (λ p h. rw (part_king p) (lt-ltb p n (omega (arith, first_is p, fits.order, fits.room))))
 
--- ---- a round that is taken, and one that isn't
+-- a round that can be taken
+pub can_take : (n sender : ℕ) (p : Part) (start log_size : ℕ) → speaker_within n sender p ≡ true → has_round n start log_size ≡ true
+    → takable n sender p start log_size ≡ true
+unfolding takable
+can_take n sender p start log_size a b = rw (a, b)
 
-module _ (n t T sender : ℕ) (p : Part) (senders : ℕ) (s : Stations) (log : List ℕ) (start : ℕ) where
-  pub can_take : speaker_within n sender p ≡ true → has_round n start (length log) ≡ true → takable n sender p start (length log) ≡ true
-  unfolding takable
-  can_take a b = rw (a, b)
-
-  pub took : takable n sender p start (length log) ≡ true
-      → (s' : Stations) → Taken n t T sender p senders s log start s' → Takes n t T sender p senders s log start s'
-  took e s' takes = record { takes = λ _. takes; stays = λ q. absurd (true≢false (sym e ∙ q)) }
-
-  pub left : takable n sender p start (length log) ≡ false → Takes n t T sender p senders s log start s
-  left e = record { takes = λ q. absurd (true≢false (sym q ∙ e)); stays = λ _. refl }
-
-  pub silent_speaker : speaker_within n sender p ≡ false → takable n sender p start (length log) ≡ false
-  unfolding takable
-  silent_speaker a = rw a
-
-  pub no_round : has_round n start (length log) ≡ false → takable n sender p start (length log) ≡ false
-  unfolding takable
-  no_round b = rw b (go (speaker_within n sender p))
-    where
-      go : (a : Bool) → (a && false) ≡ false
-      go true = refl
-      go false = refl
-
--- ---- a round that is played, and one that isn't
+-- ---- a round that can be played
 
 module _ (n sender : ℕ) (p : Part) (start log_size table_size : ℕ) where
   pub played : speaker_within n sender p ≡ true → has_round n start log_size ≡ true → has_round n start table_size ≡ true
@@ -215,36 +197,7 @@ module _ (n sender : ℕ) (p : Part) (start log_size table_size : ℕ) where
       go true false c e = absurd (true≢false (sym e))
       go false b c e = absurd (true≢false (sym e))
 
-  pub no_table : has_round n start table_size ≡ false → playable n sender p start log_size table_size ≡ false
-  unfolding playable
-  no_table c = rw c (go (speaker_within n sender p) (has_round n start log_size))
-    where
-      go : (a b : Bool) → (a && (b && false)) ≡ false
-      go true true = refl
-      go true false = refl
-      go false b = refl
-
-  pub no_log : has_round n start log_size ≡ false → playable n sender p start log_size table_size ≡ false
-  unfolding playable
-  no_log b = rw b (go (speaker_within n sender p))
-    where
-      go : (a : Bool) → (a && false) ≡ false
-      go true = refl
-      go false = refl
-
-  pub no_speaker : speaker_within n sender p ≡ false → playable n sender p start log_size table_size ≡ false
-  unfolding playable
-  no_speaker a = rw a
-
 module _ (n t T sender : ℕ) (p : Part) (s : Stations) (marks : ℕ) (table : List ℕ) (start : ℕ) (log : List ℕ) where
-  -- nothing is written, and all stations stay
-  pub stayed : playable n sender p start (length log) (length table) ≡ false → Plays n t T sender p s marks table start log log s
-  stayed e = record {
-    log_is = rw e;
-    takes = λ q. absurd (true≢false (sym q ∙ e));
-    stays = λ _. refl;
-  }
-
   -- the round is posted with what was said, and taken
   pub went : playable n sender p start (length log) (length table) ≡ true → (said : List ℕ) → Each n said (said_by sender p s)
       → (log' : List ℕ) (s' : Stations) → log' ≡ posted n marks said table log start → Taken n t T sender p marks s log' start s'

@@ -1,7 +1,8 @@
 -- One round of a whole line, in the automaton's words (crate broadcast, specs/Station.antt): every station tells its ballot, and takes its column of the log.
 -- Stations are counted from 0.
-use Rattle.std.specs.Prelude.{ℕ, ◌+◌, ◌<◌, ◌≡◌, Bool, true, false, ◌&&◌, List, ltb, length, get_or, if◌then◌else◌}
+use Rattle.std.specs.Prelude.{ℕ, ◌+◌, ◌<◌, ◌≡◌, Bool, true, false, ◌&&◌, List, ltb, length, get_or, replicate, if◌then◌else◌}
 use Rattle.line.specs.Line.{has_round}
+use Rattle.line.specs.Ballot.{blank}
 use Rattle.broadcast.specs.Station.{Setup, State, told, moved}
 use Rattle.broadcast.specs.Bytes.{tabulate}
 use Rattle.step.specs.declared.Part.{Part}
@@ -21,15 +22,13 @@ abbrev pub state_at : Stations → ℕ → ℕ → State
 state_at s r j =
     record { round = r; value = get_or s.value j 0; z = get_or s.z j 0; grade = get_or s.grade j 0; garbled = get_or s.garbled j 0 }
 
+-- all stations before round 1, with these values
+abbrev pub all_opened : List ℕ → Stations
+all_opened value = record { value = value; z = replicate 32 blank; grade = replicate 32 0; garbled = replicate 32 0 }
+
 -- what station i tells
 unfoldable pub said_by : ℕ → Part → Stations → ℕ → ℕ
 said_by sender p s i = told sender i (get_or s.value i 0) (get_or s.z i 0) (of_part p)
-
--- for private functions, which are handed the counts after the round: each of the n stations has taken its column of the round that starts at `start`
-unfoldable pub Moves : ℕ → ℕ → ℕ → ℕ → Part → Stations → List ℕ → List ℕ → ℕ → Stations → Type 0
-Moves n t T sender p s garbled log start s' =
-    (r j : ℕ) → j < n
-    → state_at s' (r + 1) j ≡ moved (setup_at n t T sender j) (state_at s r j) (column log start n j) (get_or garbled j 0) (of_part p)
 
 -- each of the n stations has taken its column of the round that starts at `start`. Of the ballots that it expects only those of `senders` are looked at for
 -- garbled ones, bit i for station i: who is left out is known to send none

@@ -2,10 +2,9 @@
 // the station counted i from 0; places beyond n are of no station, and open.
 #![tactic(auto)]
 
-ghost use Rattle.std.specs.Prelude.{◌≡◌, ℕ, ◌<◌, true, length};
+ghost use Rattle.std.specs.Prelude.{◌≡◌, true, length};
 ghost use Rattle.line.specs.Line.{has_round};
-ghost use Rattle.step.specs.declared.Part.TheVariants.{Sender, First, Second, King};
-ghost use Rattle.round.specs.Round.{Moves, speaker_within, Taken, Takes, Plays};
+ghost use Rattle.round.specs.Round.{all_opened, speaker_within, Taken, Takes, Plays};
 
 use line::Line;
 use step::Part;
@@ -19,93 +18,21 @@ pub struct Stations {
     pub garbled: [u8; 32],
 }
 
-// Round 1: each station's x is what it reads of the sender. Here and in the next three the counts handed in are those after the round.
-fn take_sender(
-    line: Line,
-    sender: u8,
-    s: Stations,
-    garbled: [u8; 32],
-    log: &[u8],
-    start: usize,
-) -> Stations
-    requires { (has_round line.n start (length log.now) ≡ true) × (sender < line.n) }
-    ensures { Moves line.n line.t line.upper sender Sender s garbled log.now start result }
-{
-    let heard = column::sent_by(line, log, start, sender);
-    let value = all_stations::hear(heard);
-    let z = s.z;
-    let grade = s.grade;
-    Stations {
-        value,
-        z,
-        grade,
-        garbled,
+impl Stations {
+    // Before round 1, with these values: no station has a z, a grade or a garbled ballot.
+    pub fn opened(value: [u8; 32]) -> Stations
+        ensures { result ≡ all_opened value }
+    {
+        Stations {
+            value,
+            z: [Line::BLANK; 32],
+            grade: [0; 32],
+            garbled: [0; 32],
+        }
     }
 }
 
-// The first round of an exchange: z.
-fn take_first(line: Line, s: Stations, garbled: [u8; 32], log: &[u8], start: usize) -> Stations
-    requires { has_round line.n start (length log.now) ≡ true }
-    ensures { (sender : ℕ) → Moves line.n line.t line.upper sender First s garbled log.now start result }
-{
-    let value = s.value;
-    let equal = column::count(line, log, start, &value);
-    let z = all_stations::choose(line, value, equal);
-    let grade = s.grade;
-    Stations {
-        value,
-        z,
-        grade,
-        garbled,
-    }
-}
-
-// The second: y and the grade.
-fn take_second(line: Line, s: Stations, garbled: [u8; 32], log: &[u8], start: usize) -> Stations
-    requires { has_round line.n start (length log.now) ≡ true }
-    ensures { (sender : ℕ) → Moves line.n line.t line.upper sender Second s garbled log.now start result }
-{
-    let zero = [0u8; 32];
-    let one = [1u8; 32];
-    let zeros = column::count(line, log, start, &zero);
-    let ones = column::count(line, log, start, &one);
-    let value = all_stations::decide(zeros, ones);
-    let z = s.z;
-    let grade = all_stations::grade(line, zeros, ones);
-    Stations {
-        value,
-        z,
-        grade,
-        garbled,
-    }
-}
-
-// The king's round.
-fn take_king(
-    line: Line,
-    king: u8,
-    s: Stations,
-    garbled: [u8; 32],
-    log: &[u8],
-    start: usize,
-) -> Stations
-    requires { (has_round line.n start (length log.now) ≡ true) × (king < line.n) }
-    ensures { (sender : ℕ) → Moves line.n line.t line.upper sender (King king) s garbled log.now start result }
-{
-    let heard = column::sent_by(line, log, start, king);
-    let y = s.value;
-    let z = s.z;
-    let grade = s.grade;
-    let value = all_stations::obey(grade, y, heard);
-    Stations {
-        value,
-        z,
-        grade,
-        garbled,
-    }
-}
-
-// What the stations make of the round that the log has from `start` on.
+// What the stations make of the round that the log has from `start` on: the counts of garbled ballots, and then what the round is for.
 fn take_all(
     line: Line,
     sender: u8,
@@ -118,15 +45,30 @@ fn take_all(
     requires { (has_round line.n start (length log.now) ≡ true) × (speaker_within line.n sender part ≡ true) }
     ensures { Taken line.n line.t line.upper sender part senders s log.now start result }
 {
-    let before = s.garbled;
     let found = garbled::found(line, senders, sender, part, log, start);
-    let garbled = all_stations::note(before, found);
+    let mut next = s;
+    next.garbled = all_stations::note(s.garbled, found);
     match part {
-        Part::Sender => take_sender(line, sender, s, garbled, log, start),
-        Part::First => take_first(line, s, garbled, log, start),
-        Part::Second => take_second(line, s, garbled, log, start),
-        Part::King(king) => take_king(line, king, s, garbled, log, start),
+        Part::Sender => {
+            let heard = column::sent_by(line, log, start, sender);
+            next.value = all_stations::hear(heard);
+        }
+        Part::First => {
+            let equal = column::count(line, log, start, &s.value);
+            next.z = all_stations::choose(line, s.value, equal);
+        }
+        Part::Second => {
+            let zeros = column::count(line, log, start, &[0; 32]);
+            let ones = column::count(line, log, start, &[1; 32]);
+            next.value = all_stations::decide(zeros, ones);
+            next.grade = all_stations::grade(line, zeros, ones);
+        }
+        Part::King(king) => {
+            let heard = column::sent_by(line, log, start, king);
+            next.value = all_stations::obey(s.grade, s.value, heard);
+        }
     }
+    next
 }
 
 // Whether the one station that speaks is of the line, where only one does.
@@ -135,14 +77,14 @@ fn speaker_within(n: u8, sender: u8, part: Part) -> bool
 {
     match part {
         Part::Sender => sender < n,
-        Part::First => true,
-        Part::Second => true,
+        Part::First | Part::Second => true,
         Part::King(king) => king < n,
     }
 }
 
 // The stations after the round that the log has from `start` on, where the ballots of `senders` are looked at for garbled ones. Where the log has no such round,
 // or its speaker is none of the n, they stay as they are.
+#[tactic(auto, unfolding(crate::specs::Round::takable))]
 pub fn take(
     line: Line,
     sender: u8,
@@ -154,16 +96,15 @@ pub fn take(
 ) -> Stations
     ensures { Takes line.n line.t line.upper sender part senders before log.now start result }
 {
-    if speaker_within(line.n, sender, part) {
-        if line.has_round(start, log.len()) {
-            return take_all(line, sender, part, senders, before, log, start);
-        }
+    if speaker_within(line.n, sender, part) && line.has_round(start, log.len()) {
+        return take_all(line, sender, part, senders, before, log, start);
     }
     before
 }
 
 // The round whose bytes start at `start`: only a marked station's ballots can be garbled. Where it has no room in the log or the table, or its speaker is none of the n, nothing is written and the stations stay
 // as they are.
+#[tactic(auto, unfolding(crate::specs::Round::playable))]
 pub fn play(
     line: Line,
     sender: u8,
@@ -176,16 +117,13 @@ pub fn play(
 ) -> Stations
     ensures { Plays line.n line.t line.upper sender part s marks table.now start log.old log.new result }
 {
-    if speaker_within(line.n, sender, part) {
-        if line.has_round(start, log.len()) {
-            if line.has_round(start, table.len()) {
-                let value = s.value;
-                let z = s.z;
-                let said = all_stations::tell(sender, part, value, z);
-                post::round(line, marks, &said, table, log, start);
-                return take_all(line, sender, part, marks, s, log, start);
-            }
-        }
+    if speaker_within(line.n, sender, part)
+        && line.has_round(start, log.len())
+        && line.has_round(start, table.len())
+    {
+        let said = all_stations::tell(sender, part, s.value, s.z);
+        post::round(line, marks, &said, table, log, start);
+        return take_all(line, sender, part, marks, s, log, start);
     }
     s
 }

@@ -1,5 +1,4 @@
 -- `found` meets its contract: followed through all rounds, and the marks put together.
-use borrow.Author.Rules.{rules}
 use mathlib.Core.Path.{◌∙◌}
 use Rattle.checker.specs.Promise.{logged}
 use Rattle.checker.specs.Followed.{tried_value}

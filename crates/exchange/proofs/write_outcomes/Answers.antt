@@ -1,5 +1,4 @@
 -- `write_outcomes` meets its contract.
-use borrow.Author.Rules.{rules}
 use mathlib.Core.Path.{◌∙◌}
 use Rattle.exchange.proofs.ExchangeLaws.{outcomes_written}
 use Rattle.exchange.proofs.write_outcomes.Goals as goal
