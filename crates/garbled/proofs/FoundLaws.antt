@@ -1,5 +1,5 @@
 -- Laws of what is found, sender by sender. Assumes nothing.
-use Prim.Native.Nat.{ℕ, zero, suc, ◌+◌, ◌≤◌, ◌<◌}
+use Prim.Native.Nat.{ℕ, zero, suc, ◌+◌, ◌<◌, max}
 use mathlib.Core.Path.{◌≡◌, refl, sym, ap, ◌∙◌}
 use mathlib.Core.Bool.{Bool, true, false, not, ◌&&◌, ◌||◌}
 use mathlib.Core.List.{List}
@@ -15,6 +15,7 @@ use Rattle.line.specs.Marks.{marked}
 use Rattle.line.specs.Ballot.{blank, silence, is_garbled}
 use Rattle.line.specs.Writing.{Each}
 use Rattle.line.proofs.CountLaws.{count_same, count_none}
+use Rattle.line.proofs.LineLaws.{round_means}
 use Rattle.line.proofs.BallotLaws.{garbled_sender, garbled_first, garbled_second, garbled_king}
 use Rattle.line.proofs.MarksLaws.{marked_above}
 use Rattle.line.proofs.WritingLaws.{zeros}
@@ -22,13 +23,14 @@ use Rattle.broadcast.specs.Broadcast.{speaks}
 use Rattle.broadcast.specs.Broadcast as broadcast
 use Rattle.broadcast.specs.Garbled.{reading, garbled_ballots, some_garbled}
 use Rattle.broadcast.proofs.RowLaws.{garbled_none, garbled_next}
-use Rattle.column.specs.Column.{column}
+use Rattle.column.specs.Column.{column, sent_by}
+use Rattle.column.proofs.ColumnLaws.{sent_there}
 use Rattle.step.specs.declared.Part.{Part}
 use Rattle.step.specs.declared.Part.TheVariants.{Sender, First, Second, King}
 use Rattle.step.specs.Part.{as_part, of_part}
 use Rattle.step.specs.Noted.{noted}
 use Rattle.step.proofs.StepLaws.{speaks_as, reading_as, noted_low}
-use Rattle.garbled.specs.Found.{from, some_of, found, above, but_silence, higher, with_row, highest}
+use Rattle.garbled.specs.Found.{from, some_of, found, above, but_silence}
 
 -- ---- by the highest byte
 
@@ -45,15 +47,13 @@ beyond bound b = go (eqb b silence) (ltb bound b) refl
     go false true e = e
     go false false e = e
 
-higher_above : (bound a b : ℕ) → ltb bound (higher a b) ≡ (ltb bound a || ltb bound b)
-unfolding higher
-higher_above bound a b = go (ltb a b) (ltb bound a) refl refl
+max_above : (bound a b : ℕ) → ltb bound (max a b) ≡ (ltb bound a || ltb bound b)
+max_above bound a b = go (ltb bound a) (ltb bound b) refl refl
   where
-    go : (c d : Bool) → ltb a b ≡ c → ltb bound a ≡ d → ltb bound (if c then b else a) ≡ (d || ltb bound b)
-    go true true e f = let l : bound < b = omega (arith, ltb-true a b e, ltb-true bound a f) in lt-ltb bound b l
-    go true false e f = refl
-    go false true e f = f
-    go false false e f = let l : b ≤ bound = omega (arith, ltb-false a b e, ltb-false bound a f) in f ∙ sym (le-ltb bound b l)
+    go : (c d : Bool) → ltb bound a ≡ c → ltb bound b ≡ d → ltb bound (max a b) ≡ (c || d)
+    go true d e f = lt-ltb bound (max a b) (omega (arith, ltb-true bound a e))
+    go false true e f = lt-ltb bound (max a b) (omega (arith, ltb-true bound b f))
+    go false false e f = le-ltb bound (max a b) (omega (arith, ltb-false bound a e, ltb-false bound b f))
 
 -- a byte is above the bound, silence as 0, exactly if its reading is garbled
 noise_is : (p : Part) (b : ℕ) → ltb (above p) (but_silence b) ≡ is_garbled (reading (of_part p) b)
@@ -65,7 +65,7 @@ noise_is (King p) b = beyond 1 b ∙ sym (garbled_king b)
 
 -- one byte more, of a sender who is looked at or not
 one_more : (p : Part) (c : Bool) (top b k : ℕ) → ltb (above p) top ≡ ltb 0 k
-    → ltb (above p) (if c then higher top (but_silence b) else top) ≡ ltb 0 ((if c && is_garbled (reading (of_part p) b) then 1 else 0) + k)
+    → ltb (above p) (if c then max top (but_silence b) else top) ≡ ltb 0 ((if c && is_garbled (reading (of_part p) b) then 1 else 0) + k)
 one_more p c top b k e = go c
   where
     plain : 0 + k ≡ k
@@ -77,48 +77,55 @@ one_more p c top b k e = go c
     counted false true f = sym (ap (ltb 0) plain ∙ f)
     counted false false f = sym (ap (ltb 0) plain ∙ f)
 
-    go : (c : Bool) → ltb (above p) (if c then higher top (but_silence b) else top) ≡ ltb 0 ((if c && is_garbled (reading (of_part p) b) then 1 else 0) + k)
-    go true = higher_above (above p) top (but_silence b) ∙ rw (e, noise_is p b) (counted (is_garbled (reading (of_part p) b)) (ltb 0 k) refl)
+    go : (c : Bool) → ltb (above p) (if c then max top (but_silence b) else top) ≡ ltb 0 ((if c && is_garbled (reading (of_part p) b) then 1 else 0) + k)
+    go true = max_above (above p) top (but_silence b) ∙ rw (e, noise_is p b) (counted (is_garbled (reading (of_part p) b)) (ltb 0 k) refl)
     go false = e ∙ sym (ap (ltb 0) plain)
 
 module _ (n senders sender : ℕ) (p : Part) (bytes : List ℕ) (start : ℕ) where
-  -- of none
-  pub none_of : Each n (replicate 32 0) (highest n senders sender p bytes start 0)
+  -- of the first m stations' bytes for j that are looked at, the highest but for silence
+  unfoldable pub highest : ℕ → ℕ → ℕ
+  highest zero j = 0
+  highest (suc m) j = if from senders sender p m then max (highest m j) (but_silence (column bytes start n j m)) else highest m j
+
+  pub none_of : Each n (replicate 32 0) (highest 0)
   unfolding Each highest
   none_of j h = zeros 32 j
 
-  -- one sender more
-  pub row_added : (m : ℕ) (l l' : List ℕ) (row : ℕ → ℕ) → ((j : ℕ) → j < n → row j ≡ column bytes start n j m)
-      → Each n l (highest n senders sender p bytes start m) → Each n l' (with_row senders sender p m l row)
-      → Each n l' (highest n senders sender p bytes start (m + 1))
-  unfolding Each with_row highest
-  row_added m l l' row is before now j h = now j h ∙ rw (add-one m, before j h, is j h)
+  -- one sender more, who is looked at
+  pub row_added : (m : ℕ) (l l' row : List ℕ) → has_round n start (length bytes) ≡ true → m < n → from senders sender p m ≡ true
+      → Each n l (highest m) → Each n row (sent_by n bytes start m) → Each 32 l' (λ j. max (get_or l j 0) (but_silence (get_or row j 0)))
+      → Each n l' (highest (m + 1))
+  unfolding Each highest
+  row_added m l l' row room k e before sent now j h =
+      now j (omega (arith, (round_means n start (length bytes) room).0))
+      ∙ rw (add-one m, e, before j h, sent j h, sent_there n bytes start m k room j)
+
+  -- .. or not
+  pub row_passed : (m : ℕ) (l : List ℕ) → from senders sender p m ≡ false → Each n l (highest m) → Each n l (highest (m + 1))
+  unfolding Each highest
+  row_passed m l e before j h = before j h ∙ rw (add-one m, e)
 
   -- the highest of the first m is above the bound exactly if one of them is garbled
-  highest_tells : (m j : ℕ) → ltb (above p) (highest n senders sender p bytes start m j)
+  highest_tells : (m j : ℕ) → ltb (above p) (highest m j)
       ≡ ltb 0 (garbled_ballots m (from senders sender p) (of_part p) (column bytes start n j))
   unfolding highest
   highest_tells zero j = nothing_above (above p) ∙ rw (garbled_none (from senders sender p) (of_part p) (column bytes start n j))
   highest_tells (suc m) j =
       rw (← add-one m, garbled_next (from senders sender p) (of_part p) (column bytes start n j) m)
-      (one_more p (from senders sender p m) (highest n senders sender p bytes start m j) (column bytes start n j m) _ (highest_tells m j))
+      (one_more p (from senders sender p m) (highest m j) (column bytes start n j m) _ (highest_tells m j))
 
-  pub tells : (l l' : List ℕ) (bound : ℕ) → n ≤ 32 → bound ≡ above p → Each n l (highest n senders sender p bytes start n)
-      → Each 32 l' (λ j. if ltb bound (get_or l j 0) then 1 else 0) → Each n l' (some_of n senders sender p bytes start n)
+  pub found_there : has_round n start (length bytes) ≡ true → (j : ℕ) → found n senders sender p bytes start j ≡ some_of n senders sender p bytes start n j
+  unfolding found
+  found_there room j = rw room
+
+  -- of all n
+  pub found_all : (l l' : List ℕ) (bound : ℕ) → has_round n start (length bytes) ≡ true → bound ≡ above p → Each n l (highest n)
+      → Each 32 l' (λ j. if ltb bound (get_or l j 0) then 1 else 0) → Each n l' (found n senders sender p bytes start)
   unfolding Each some_of
-  tells l l' bound most e before now j h = now j (omega arith) ∙ rw (e, before j h, highest_tells n j)
+  found_all l l' bound room e each now j h =
+      now j (omega (arith, (round_means n start (length bytes) room).0)) ∙ (rw (e, each j h, highest_tells n j)) ∙ sym (found_there room j)
 
--- ---- with and without room, and with nobody to look at
-
-pub found_there : (n senders sender : ℕ) (p : Part) (bytes : List ℕ) (start : ℕ) → has_round n start (length bytes) ≡ true
-    → (j : ℕ) → found n senders sender p bytes start j ≡ some_of n senders sender p bytes start n j
-unfolding found
-found_there n senders sender p bytes start h j = rw h
-
-pub found_all : (n senders sender : ℕ) (p : Part) (bytes : List ℕ) (start : ℕ) (l : List ℕ) → has_round n start (length bytes) ≡ true
-    → Each n l (some_of n senders sender p bytes start n) → Each n l (found n senders sender p bytes start)
-unfolding Each
-found_all n senders sender p bytes start l h each j k = each j k ∙ sym (found_there n senders sender p bytes start h j)
+-- ---- without room, and with nobody to look at
 
 pub found_not : (n senders sender : ℕ) (p : Part) (bytes : List ℕ) (start : ℕ) → has_round n start (length bytes) ≡ false
     → Each n (replicate 32 0) (found n senders sender p bytes start)

@@ -1,5 +1,5 @@
 -- Which receivers get a garbled ballot that they expect, in one round. Stations are counted from 0. Bytes are laid out like a run table.
-use Rattle.std.specs.Prelude.{ℕ, zero, suc, Bool, ◌&&◌, List, ltb, eqb, length, get_or, if◌then◌else◌}
+use Rattle.std.specs.Prelude.{ℕ, Bool, ◌&&◌, List, ltb, eqb, length, if◌then◌else◌}
 use Rattle.line.specs.Line.{has_round}
 use Rattle.line.specs.Ballot.{blank, silence}
 use Rattle.line.specs.Marks.{marked}
@@ -23,7 +23,7 @@ some_of n senders sender p bytes start m j =
 unfoldable pub found : ℕ → ℕ → ℕ → Part → List ℕ → ℕ → ℕ → ℕ
 found n senders sender p bytes start j = if has_round n start (length bytes) then some_of n senders sender p bytes start n j else 0
 
--- ---- for private functions: of the bytes for j, the highest but for silence tells (`highest_tells`)
+-- ---- for private functions
 
 -- what is above it, but for silence, is garbled
 unfoldable pub above : Part → ℕ
@@ -35,17 +35,3 @@ above (King p) = 1
 -- silence as 0, which is never above
 unfoldable pub but_silence : ℕ → ℕ
 but_silence b = if eqb b silence then 0 else b
-
-unfoldable pub higher : ℕ → ℕ → ℕ
-higher a b = if ltb a b then b else a
-
--- with station i's row, if it is looked at
-unfoldable pub with_row : ℕ → ℕ → Part → ℕ → List ℕ → (ℕ → ℕ) → ℕ → ℕ
-with_row senders sender p i top row j = if from senders sender p i then higher (get_or top j 0) (but_silence (row j)) else get_or top j 0
-
--- of the first m stations' bytes for j
-unfoldable pub highest : ℕ → ℕ → ℕ → Part → List ℕ → ℕ → ℕ → ℕ → ℕ
-highest n senders sender p bytes start zero j = 0
-highest n senders sender p bytes start (suc m) j =
-    if from senders sender p m then higher (highest n senders sender p bytes start m j) (but_silence (column bytes start n j m))
-    else highest n senders sender p bytes start m j

@@ -1,22 +1,7 @@
--- `note` meets its contract.
-use borrow.Author.Rules.{rules}
-use native.Mathlib.Omega.{arith}
-use Prim.Native.Nat.{◌≤◌, ◌-◌}
-use mathlib.Core.Path.{◌≡◌, refl}
-use lib.ListN.{length, get_or, length-set}
-use Rattle.line.specs.Writing.{Each}
-use Rattle.line.proofs.WritingLaws.{each_none, each_turn}
-use Rattle.step.specs.Noted.{noted}
+-- `note` meets its contract, by what its closure gives.
+use Rattle.std.proofs.Common.{rules}
+use Rattle.line.proofs.FromFnLaws.{each_from_fn}
 use Rattle.all_stations.proofs.note.Goals as goal
 
-pub loop-j-init : goal.loop-j-init
-loop-j-init c = (omega arith, refl, each_none _ _)
-
-pub loop-j-preserved : goal.loop-j-preserved
-loop-j-preserved c =
-    (omega arith, simp length-set c.loop-j.invariant.1, each_turn c.loop-j.next _ c.loop-j.j _ (omega (arith, c.loop-j.invariant.1)) c.loop-j.invariant.2 c.noted.ensures)
-
 pub returns : goal.returns
-returns c =
-    let e : c.loop-j.j ≡ 32 = omega arith in
-    rw e at c.loop-j.invariant.2
+returns c = each_from_fn _ _ _ _ (λ i r f' h call. search rules) _ c.from_fn.ensures.items

@@ -1,23 +1,7 @@
--- `tell` meets its contract.
-use borrow.Author.Rules.{rules}
-use native.Mathlib.Omega.{arith}
-use Prim.Native.Nat.{◌≤◌, ◌-◌}
-use mathlib.Core.Path.{◌≡◌, refl}
-use lib.ListN.{length, get_or, length-set}
-use Rattle.line.specs.Writing.{Each}
-use Rattle.line.proofs.WritingLaws.{each_none, each_turn}
-use Rattle.broadcast.specs.Station.{told}
-use Rattle.step.specs.Part.{of_part}
+-- `tell` meets its contract, by what its closure gives.
+use Rattle.std.proofs.Common.{rules}
+use Rattle.line.proofs.FromFnLaws.{each_from_fn}
 use Rattle.all_stations.proofs.tell.Goals as goal
 
-pub loop-i-init : goal.loop-i-init
-loop-i-init c = (omega arith, refl, each_none _ _)
-
-pub loop-i-preserved : goal.loop-i-preserved
-loop-i-preserved c =
-    (omega arith, simp length-set c.loop-i.invariant.1, each_turn c.loop-i.said _ c.loop-i.i _ (omega (arith, c.loop-i.invariant.1)) c.loop-i.invariant.2 c.told.ensures)
-
 pub returns : goal.returns
-returns c =
-    let e : c.loop-i.i ≡ 32 = omega arith in
-    rw e at c.loop-i.invariant.2
+returns c = each_from_fn _ _ _ _ (λ i r f' h call. search rules) _ c.from_fn.ensures.items

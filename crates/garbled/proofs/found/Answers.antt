@@ -1,28 +1,32 @@
 -- `found` meets its contract.
-use borrow.Author.Rules.{rules}
-use mathlib.Core.Path.{sym, ◌∙◌}
-use lib.ListN.{length}
-use Rattle.line.proofs.LineLaws.{round_means}
-use Rattle.garbled.proofs.FoundLaws.{tells, found_all, found_not, found_nobody}
+use Rattle.std.proofs.Common.{◌≡◌, rules, arith, sym}
+use Rattle.line.proofs.FromFnLaws.{each_from_fn}
+use Rattle.garbled.proofs.FoundLaws.{none_of, row_added, row_passed, found_all, found_not, found_nobody}
 use Rattle.garbled.proofs.found.Goals as goal
+use Rattle.garbled.proofs.found.Goals.{then-senders-eq0-via-then-senders-eq0, then-senders-eq0-via-else-senders-eq0+then-not-has_round, then-looked_at, else-looked_at}
 
 pub returns-then-senders-eq0 : goal.returns-then-senders-eq0
 returns-then-senders-eq0 c =
-    let g = c.args in
-    rw c.if-senders-eq0.true (found_nobody g.line.n g.sender g.part g.bytes.now g.start)
+    elim c.then-senders-eq0.branch [
+      | then-senders-eq0-via-then-senders-eq0 w ↦ rw w.if-senders-eq0.true (found_nobody _ _ _ _ _)
+      | then-senders-eq0-via-else-senders-eq0+then-not-has_round w ↦ found_not _ _ _ _ _ _ (sym w.if-not-has_round.ensures)
+    ]
 
-pub all_senders-highest-requires : goal.all_senders-highest-requires
-all_senders-highest-requires c = sym c.has_round.ensures ∙ c.if-has_round.true
+pub loop-i-init : goal.loop-i-init
+loop-i-init c = none_of _ _ _ _ _ _
 
-pub returns-then-has_round : goal.returns-then-has_round
-returns-then-has_round c =
-    let g = c.args in
-    let room = sym c.has_round.ensures ∙ c.if-has_round.true in
-    found_all g.line.n g.senders g.sender g.part g.bytes.now g.start _ room
-    (tells g.line.n g.senders g.sender g.part g.bytes.now g.start _ _ _ (round_means g.line.n g.start (length g.bytes.now) room).0
-    c.above.ensures c.all_senders-highest.ensures c.told.ensures)
+pub loop-i-preserved : goal.loop-i-preserved
+loop-i-preserved c =
+    elim c.if-looked_at.branch [
+      | then-looked_at w ↦
+          let higher = each_from_fn _ _ _ _ (λ j r f' h call. search rules) _ w.from_fn-highest.ensures.items in
+          rw w.highest-is
+          (row_added _ _ _ _ _ _ _ _ _ _ (sym c.if-not-has_round.ensures) c.loop-i-test.true (sym w.if-looked_at.ensures) c.loop-i.invariant w.sent_by-row.ensures higher)
+      | else-looked_at w ↦ rw w.highest-is (row_passed _ _ _ _ _ _ _ _ (sym w.if-looked_at.ensures) c.loop-i.invariant)
+    ]
 
 pub returns : goal.returns
 returns c =
-    let g = c.args in
-    found_not g.line.n g.senders g.sender g.part g.bytes.now g.start (sym c.has_round.ensures ∙ c.if-has_round.false)
+    let e : c.loop-i.i ≡ c.args.line.n = omega arith in
+    found_all _ _ _ _ _ _ c.loop-i.highest _ _ (sym c.if-not-has_round.ensures) c.above-bound.ensures (rw e at c.loop-i.invariant)
+    (each_from_fn _ _ _ _ (λ j r f' h call. search rules) _ c.from_fn.ensures.items)
