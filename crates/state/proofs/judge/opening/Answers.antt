@@ -1,5 +1,4 @@
 -- `judge::opening` meets its contract.
-use borrow.Author.Rules.{rules}
 use Rattle.header.specs.Header.{line_verdict, station_number, bit}
 use Rattle.refusal.proofs.VerdictLaws.{judged}
 use Rattle.state.specs.Judgement.{opening_verdict}

@@ -1,5 +1,4 @@
 -- `judge::station` meets its contract.
-use borrow.Author.Rules.{rules}
 use Rattle.header.specs.Header.{line_verdict, station_number}
 use Rattle.refusal.proofs.VerdictLaws.{judged}
 use Rattle.state.specs.Judgement.{station_verdict, state_verdict}

@@ -1,5 +1,4 @@
 -- `judge::taking` meets its contract.
-use borrow.Author.Rules.{rules}
 use Rattle.refusal.proofs.VerdictLaws.{judged}
 use Rattle.state.specs.Judgement.{taking_verdict}
 use Rattle.state.proofs.judge.taking.Goals as goal

@@ -1,5 +1,4 @@
 -- `judge::telling` meets its contract.
-use borrow.Author.Rules.{rules}
 use Rattle.refusal.proofs.VerdictLaws.{judged}
 use Rattle.state.specs.Judgement.{telling_verdict}
 use Rattle.state.proofs.judge.telling.Goals as goal
