@@ -1,5 +1,4 @@
 -- `advance` meets its contract, case by case of the verdict.
-use borrow.Author.Rules.{rules}
 use mathlib.Core.Path.{sym, ◌∙◌}
 use Rattle.station.proofs.AnswerLaws.{advances}
 use Rattle.state.proofs.SoundLaws.{ready}

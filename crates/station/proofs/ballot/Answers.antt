@@ -1,5 +1,4 @@
 -- `ballot` meets its contract, case by case of the verdict.
-use borrow.Author.Rules.{rules}
 use mathlib.Core.Path.{sym, ◌∙◌}
 use Rattle.station.proofs.AnswerLaws.{tells}
 use Rattle.state.proofs.SoundLaws.{telling_sound}

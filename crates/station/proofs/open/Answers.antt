@@ -1,5 +1,4 @@
 -- `open` meets its contract, case by case of the verdict.
-use borrow.Author.Rules.{rules}
 use Rattle.station.proofs.AnswerLaws.{opens}
 use Rattle.station.proofs.open.Goals as goal
 

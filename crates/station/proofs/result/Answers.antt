@@ -1,5 +1,4 @@
 -- `result` meets its contract, case by case of the verdict.
-use borrow.Author.Rules.{rules}
 use Rattle.station.proofs.AnswerLaws.{results}
 use Rattle.station.proofs.result.Goals as goal
 

@@ -1,8 +1,7 @@
 -- `act::tell` meets its contract.
-use borrow.Author.Rules.{rules}
 use Rattle.station.proofs.TakeLaws.{part_told}
 use Rattle.station.proofs.act.tell.Goals as goal
 
 pub returns : goal.returns
 returns c =
-    part_told c.args.s _ _ c.part_of-part.ensures c.told.ensures
+    part_told c.args.s _ _ c.part_of.ensures c.told.ensures
