@@ -36,13 +36,8 @@ pub(crate) fn tell(s: Station) -> u8
     requires { Sound s }
     ensures { result ≡ ballot (setup_of s) (state_of s) }
 {
-    step::told(
-        step::part_of(s.round),
-        s.sender - 1,
-        s.own - 1,
-        s.value,
-        s.z,
-    )
+    let part = step::part_of(s.round);
+    step::told(part, s.sender - 1, s.own - 1, s.value, s.z)
 }
 
 // The next round, with these; in the round that ends so many of the expected ballots were garbled.
