@@ -4,7 +4,7 @@
 
 ghost use Rattle.std.specs.Prelude.{◌≡◌};
 ghost use Rattle.station.specs.Answers.{ballot_answer, advanced_by};
-ghost use Rattle.offer.specs.Offers.{with_ballot, told_byte, offer_told, same, comparing_verdict, Shows, Accepts};
+ghost use Rattle.offer.specs.Offers.{told_byte, offer_told, comparing_verdict, Shows, Accepts};
 
 use line::Line;
 use refusal::cause::Cause;
@@ -14,7 +14,7 @@ use station::{Advanced, Told};
 pub mod word;
 
 // The state that follows, and its ballot. Any bytes may stand in one that is handed in: all six are compared.
-#[derive(Clone, Copy)]
+#[derive(Clone, Copy, Default, PartialEq, Eq)]
 pub struct Offer {
     pub round: u8,
     pub value: u8,
@@ -42,9 +42,10 @@ fn ballot_of(s: Station) -> u8
     }
 }
 
-// The offer of this state and ballot.
-fn offer_of(next: Station, ballot: u8) -> Offer
-    ensures { result ≡ with_ballot next ballot }
+// The offer of the station that follows.
+#[tactic(auto, unfolding(crate::specs::Offers::with_ballot))]
+fn offer_of(next: Station) -> Offer
+    ensures { result ≡ offer_told next }
 {
     Offer {
         round: next.round,
@@ -52,38 +53,16 @@ fn offer_of(next: Station, ballot: u8) -> Offer
         z: next.z,
         grade: next.grade,
         garbled: next.garbled,
-        ballot,
+        ballot: ballot_of(next),
     }
-}
-
-// Every byte of both is compared.
-fn same(a: Offer, b: Offer) -> bool
-    ensures { result ≡ same a b }
-{
-    if a.round != b.round {
-        return false;
-    }
-    if a.value != b.value {
-        return false;
-    }
-    if a.z != b.z {
-        return false;
-    }
-    if a.grade != b.grade {
-        return false;
-    }
-    if a.garbled != b.garbled {
-        return false;
-    }
-    a.ballot == b.ballot
 }
 
 // The station that follows, if the offer is the one that leads to it.
+#[tactic(auto, unfolding(crate::specs::Offers::comparing_verdict, crate::specs::Offers::same, refusal::specs::Cause::refused_if))]
 fn compared(following: Station, o: Offer) -> Advanced
     ensures { result ≡ advanced_by (comparing_verdict o (offer_told following)) following }
 {
-    let right = offer_of(following, ballot_of(following));
-    if same(o, right) {
+    if o == offer_of(following) {
         Advanced::Next(following)
     } else {
         Advanced::Refused(Cause::Offer)
@@ -96,7 +75,7 @@ pub fn show(s: Station, row: &[u8]) -> Shown
 {
     let advanced = station::advance(s, row);
     match advanced {
-        Advanced::Next(next) => Shown::Following(offer_of(next, ballot_of(next))),
+        Advanced::Next(next) => Shown::Following(offer_of(next)),
         Advanced::Refused(c) => Shown::Refused(c),
     }
 }

@@ -1,5 +1,4 @@
 -- `accept` meets its contract, by what `station::advance` promises.
-use borrow.Author.Rules.{rules}
 use mathlib.Core.Path.{sym, ◌∙◌}
 use Rattle.offer.proofs.OfferLaws.{accepted_next, accepted_refused}
 use Rattle.offer.proofs.accept.Goals as goal
