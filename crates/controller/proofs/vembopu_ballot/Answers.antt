@@ -1,5 +1,4 @@
 -- `vembopu_ballot` meets its contract, by what `station::ballot` promises.
-use borrow.Author.Rules.{rules}
 use Rattle.controller.proofs.WordLaws.{told_as}
 use Rattle.controller.proofs.vembopu_ballot.Goals as goal
 
