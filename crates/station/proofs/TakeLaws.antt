@@ -6,9 +6,9 @@ use mathlib.Core.List.{List}
 use native.Mathlib.Omega.{arith}
 use lib.Dec.{eqb}
 use borrow.Author.Tests.{eqb-false}
-use Rattle.std.specs.Prelude.{count_by, if◌then◌else◌}
+use Rattle.std.specs.Prelude.{if◌then◌else◌}
 use Rattle.line.specs.Line.{rounds}
-use Rattle.line.specs.Ballot.{blank, read_sender, read_first, read_second, read_king, is_garbled, bit_or, sender_value}
+use Rattle.line.specs.Ballot.{read_sender, read_first, read_second, read_king, is_garbled, bit_or, sender_value}
 use Rattle.line.specs.declared.ballot.Ballot.{Ballot}
 use Rattle.broadcast.specs.Exchange.{firsts, seconds, z_from, z_of, y_from, y_of, for_y, grade_of}
 use Rattle.broadcast.specs.Broadcast.{from_sender, first_of, second_of, from_king, part, obey}
@@ -24,8 +24,9 @@ use Rattle.step.proofs.StepLaws.{told_as, taken_as, noted_low}
 use Rattle.state.specs.declared.Station.{Station}
 use Rattle.state.specs.Judgement.{Ready}
 use Rattle.station.specs.Automaton.{setup_of, state_of, in_state}
-use Rattle.station.specs.Tallies.{found}
-use Rattle.station.proofs.TallyLaws.{firsts_are, seconds_are, garbled_firsts_are, garbled_seconds_are}
+use Rattle.station.specs.declared.tally.Tally.{Tally}
+use Rattle.station.specs.Tallies.{found, Counts}
+use Rattle.station.proofs.TallyLaws.{equal_is, garbled_is, zeros_are, ones_are, garbled_are}
 
 -- the ballot, by the part
 pub part_told : (s : Station) (p : Part) (b : ℕ) → p ≡ as_part (part s.round)
@@ -67,32 +68,28 @@ module _ (s : Station) (row : List ℕ) (r : Station) where
       let q : k ≡ found s.n (s.sender - 1) (King p) (at row) = e ∙ rw a (sym (garbled_of_king s.n (s.sender - 1) p (at row) few)) in
       rw (b, a, noted_is h (King p) k q) at g
 
-  -- and in an exchange by the counts of a row that has n ballots: how many are garbled, how many have this value, and how many are zeros and ones
-  module _ (ready : Ready s row) (k : ℕ) where
-    pub first_taken : (equal z : ℕ) → equal ≡ count_by (λ b. eqb (bit_or blank (read_first b)) s.value) row → k ≡ count_by (λ b. is_garbled (read_first b)) row
-        → z ≡ z_from s.n s.upper s.value equal
-        → r ≡ in_state s (next (state_of s) s.value z s.grade (noted s.garbled k))
+  -- and in an exchange by the tally of a row that has n ballots
+  module _ (ready : Ready s row) (t : Tally) where
+    pub first_taken : (equal z : ℕ) → Counts read_first row t → equal ≡ (if eqb s.value 0 then t.zeros else t.ones) → z ≡ z_from s.n s.upper s.value equal
+        → r ≡ in_state s (next (state_of s) s.value z s.grade (noted s.garbled t.garbled))
         → r ≡ in_state s (taken (setup_of s) (state_of s) (at row) (of_part First))
     unfolding taken moved z_of
-    first_taken equal z a b e g =
-        let q : k ≡ found s.n (s.sender - 1) First (at row) = rw ready.whole at (b ∙ garbled_firsts_are row (s.sender - 1)) in
-        let n : equal ≡ firsts s.n s.value (at row) = rw ready.whole at (a ∙ firsts_are row s.value) in
-        rw (e, n, noted_is ready First k q) at g
+    first_taken equal z k a b g =
+        let q : t.garbled ≡ found s.n (s.sender - 1) First (at row) = rw ready.whole at (garbled_is row t k (s.sender - 1)) in
+        let e : equal ≡ firsts s.n s.value (at row) = rw ready.whole at (a ∙ equal_is row t k s.value ready.sound.value_bit) in
+        rw (b, e, noted_is ready First t.garbled q) at g
 
-    pub second_taken : (zeros ones y grade : ℕ) → zeros ≡ count_by (λ b. eqb (bit_or blank (read_second b)) 0) row
-        → ones ≡ count_by (λ b. eqb (bit_or blank (read_second b)) 1) row
-        → k ≡ count_by (λ b. is_garbled (read_second b)) row
-        → y ≡ y_from zeros ones → grade ≡ grade_of s.n s.t s.upper (for_y zeros ones)
-        → r ≡ in_state s (next (state_of s) y s.z grade (noted s.garbled k))
+    pub second_taken : (y grade : ℕ) → Counts read_second row t → y ≡ y_from t.zeros t.ones → grade ≡ grade_of s.n s.t s.upper (for_y t.zeros t.ones)
+        → r ≡ in_state s (next (state_of s) y s.z grade (noted s.garbled t.garbled))
         → r ≡ in_state s (taken (setup_of s) (state_of s) (at row) (of_part Second))
     unfolding taken moved y_of
-    second_taken zeros ones y grade a b c e f g =
-        let q : k ≡ found s.n (s.sender - 1) Second (at row) = rw ready.whole at (c ∙ garbled_seconds_are row (s.sender - 1)) in
-        let zeros_are : zeros ≡ seconds s.n 0 (at row) = rw ready.whole at (a ∙ seconds_are row 0) in
-        let ones_are : ones ≡ seconds s.n 1 (at row) = rw ready.whole at (b ∙ seconds_are row 1) in
-        let y_is : y ≡ y_from (seconds s.n 0 (at row)) (seconds s.n 1 (at row)) = rw (zeros_are, ones_are) at e in
-        let grade_is : grade ≡ grade_of s.n s.t s.upper (seconds s.n (y_of s.n (at row)) (at row)) = (rw (zeros_are, ones_are) at f) ∙ ap (grade_of s.n s.t s.upper) (for_y_is s.n (at row)) in
-        rw (y_is, grade_is, noted_is ready Second k q) at g
+    second_taken y grade k e f g =
+        let q : t.garbled ≡ found s.n (s.sender - 1) Second (at row) = rw ready.whole at (garbled_are row t k (s.sender - 1)) in
+        let a : t.zeros ≡ seconds s.n 0 (at row) = rw ready.whole at (zeros_are row t k) in
+        let b : t.ones ≡ seconds s.n 1 (at row) = rw ready.whole at (ones_are row t k) in
+        let y_is : y ≡ y_from (seconds s.n 0 (at row)) (seconds s.n 1 (at row)) = rw (a, b) at e in
+        let grade_is : grade ≡ grade_of s.n s.t s.upper (seconds s.n (y_of s.n (at row)) (at row)) = (rw (a, b) at f) ∙ ap (grade_of s.n s.t s.upper) (for_y_is s.n (at row)) in
+        rw (y_is, grade_is, noted_is ready Second t.garbled q) at g
 
 -- ---- a king's round has one of the t + 1 kings, who is a station
 

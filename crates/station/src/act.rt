@@ -7,7 +7,8 @@ ghost use Rattle.step.specs.declared.Part.TheVariants.{Sender, First, Second, Ki
 ghost use Rattle.station.specs.Automaton.{setup_of, state_of, in_state, opened_station, result_of};
 ghost use Rattle.state.specs.Judgement.{Sound, Ready};
 
-use crate::{StationResult, tally};
+use crate::StationResult;
+use crate::tally::Tally;
 use line::{Line, ballot};
 use state::{Station, judge};
 use step::Part;
@@ -70,10 +71,9 @@ fn take_first(s: Station, row: &[u8]) -> Station
     requires { Ready s row.now }
     ensures { result ≡ in_state s (taken (setup_of s) (state_of s) (at row.now) (of_part First)) }
 {
-    let equal = tally::votes(row, ballot::read_first, s.value);
-    let z = step::z(s.n, s.upper, s.value, equal);
-    let garbled = tally::garbled(row, ballot::read_first);
-    next(s, s.value, z, s.grade, garbled)
+    let tally = Tally::of(row, ballot::read_first);
+    let z = step::z(s.n, s.upper, s.value, tally.votes(s.value));
+    next(s, s.value, z, s.grade, tally.garbled)
 }
 
 // The second round of an exchange: y and the grade.
@@ -81,12 +81,10 @@ fn take_second(s: Station, row: &[u8]) -> Station
     requires { Ready s row.now }
     ensures { result ≡ in_state s (taken (setup_of s) (state_of s) (at row.now) (of_part Second)) }
 {
-    let zeros = tally::votes(row, ballot::read_second, 0);
-    let ones = tally::votes(row, ballot::read_second, 1);
-    let y = step::y(zeros, ones);
-    let grade = step::grade(s.n, s.t, s.upper, zeros, ones);
-    let garbled = tally::garbled(row, ballot::read_second);
-    next(s, y, s.z, grade, garbled)
+    let tally = Tally::of(row, ballot::read_second);
+    let y = step::y(tally.zeros, tally.ones);
+    let grade = step::grade(s.n, s.t, s.upper, tally.zeros, tally.ones);
+    next(s, y, s.z, grade, tally.garbled)
 }
 
 // The king's round.

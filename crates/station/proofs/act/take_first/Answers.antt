@@ -7,4 +7,4 @@ use Rattle.station.proofs.act.take_first.Goals as goal
 pub returns : goal.returns
 returns c =
     first_taken c.args.s c.args.row.now _ c.requires _ _ _
-    (c.votes-equal.ensures read_first (λ b r e. search rules)) (c.garbled-garbled.ensures read_first (λ b r e. search rules)) c.z-z.ensures c.next.ensures
+    (c.of-tally.ensures read_first (λ b r e. search rules)) c.votes.ensures c.z-z.ensures c.next.ensures

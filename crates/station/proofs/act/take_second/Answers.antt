@@ -6,6 +6,5 @@ use Rattle.station.proofs.act.take_second.Goals as goal
 
 pub returns : goal.returns
 returns c =
-    second_taken c.args.s c.args.row.now _ c.requires _ _ _ _ _
-    (c.votes-zeros.ensures read_second (λ b r e. search rules)) (c.votes-ones.ensures read_second (λ b r e. search rules)) (c.garbled-garbled.ensures read_second (λ b r e. search rules))
-    c.y-y.ensures c.grade-grade.ensures c.next.ensures
+    second_taken c.args.s c.args.row.now _ c.requires _ _ _
+    (c.of-tally.ensures read_second (λ b r e. search rules)) c.y-y.ensures c.grade-grade.ensures c.next.ensures
