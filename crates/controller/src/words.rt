@@ -9,11 +9,7 @@ use station::StationResult;
 pub(crate) fn five(a: u8, b: u8, c: u8, d: u8, e: u8) -> u64
     ensures { result ≡ word a b c d e }
 {
-    a as u64
-        + 256 * (b as u64)
-        + 65536 * (c as u64)
-        + 16777216 * (d as u64)
-        + 4294967296 * (e as u64)
+    u64::from_le_bytes([a, b, c, d, e, 0, 0, 0])
 }
 
 // A station's state.
@@ -39,19 +35,21 @@ pub(crate) fn result(found: StationResult) -> u64
 }
 
 // The station that these numbers are.
+#[tactic(auto, unfolding(crate::specs::Words::station_of))]
 pub fn station(n: u8, t: u8, upper: u8, sender: u8, own: u8, state: u64) -> Station
     ensures { result ≡ station_of n t upper sender own state }
 {
+    let [round, value, z, grade, garbled, ..] = state.to_le_bytes();
     Station {
         n,
         t,
         upper,
         sender,
         own,
-        round: (state % 256) as u8,
-        value: (state / 256 % 256) as u8,
-        z: (state / 65536 % 256) as u8,
-        grade: (state / 16777216 % 256) as u8,
-        garbled: (state / 4294967296 % 256) as u8,
+        round,
+        value,
+        z,
+        grade,
+        garbled,
     }
 }

@@ -12,32 +12,25 @@ use refusal::cause;
 use refusal::cause::{Cause, Verdict};
 
 // Below low or above high.
+#[tactic(auto, unfolding(crate::specs::Header::outside))]
 pub fn outside(low: u8, high: u8, x: u8) -> bool
     ensures { result ≡ outside low high x }
 {
-    if x < low {
-        return true;
-    }
-    high < x
+    !(low..=high).contains(&x)
 }
 
 // t above T, or t + 2T not below n. The sum is computed in 16 bits, where it never wraps.
+#[tactic(auto, unfolding(crate::specs::Header::exceeded))]
 fn exceeded(n: u8, t: u8, upper: u8) -> bool
     ensures { result ≡ exceeded n t upper }
 {
-    if upper < t {
-        return true;
-    }
-    (n as u16) <= (t as u16) + 2 * (upper as u16)
+    upper < t || u16::from(n) <= u16::from(t) + 2 * u16::from(upper)
 }
 
 fn mark_beyond(n: u8, marks: u32) -> bool
     ensures { result ≡ mark_beyond n marks }
 {
-    if n < 32 {
-        return 1 <= marks >> n;
-    }
-    false
+    n < 32 && marks >> n != 0
 }
 
 // Cause 2.
@@ -114,10 +107,7 @@ fn too_large(w: u8, number: u8) -> bool
     ensures { result ≡ leb (2 ^ bits w) number }
 {
     let bits = width::bits(w);
-    if bits < 8 {
-        return 1 <= number >> bits;
-    }
-    false
+    bits < 8 && number >> bits != 0
 }
 
 // Cause 5, of a number of w bits.

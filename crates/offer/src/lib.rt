@@ -5,7 +5,7 @@
 ghost use Rattle.std.specs.Prelude.{◌≡◌};
 ghost use Rattle.refusal.specs.Cause.{answered};
 ghost use Rattle.station.specs.Answers.{ballot_answer};
-ghost use Rattle.offer.specs.Offers.{with_ballot, told_byte, offer_told, same, comparing_verdict, Shows, Accepts};
+ghost use Rattle.offer.specs.Offers.{told_byte, offer_told, comparing_verdict, Shows, Accepts};
 
 use line::Line;
 use refusal::cause::Cause;
@@ -14,7 +14,7 @@ use state::Station;
 pub mod word;
 
 // The state that follows, and its ballot. Any bytes may stand in one that is handed in: all six are compared.
-#[derive(Clone, Copy)]
+#[derive(Clone, Copy, Default, PartialEq, Eq)]
 pub struct Offer {
     pub round: u8,
     pub value: u8,
@@ -31,9 +31,10 @@ fn ballot_of(s: Station) -> u8
     station::ballot(s).unwrap_or(Line::SILENCE)
 }
 
-// The offer of this state and ballot.
-fn offer_of(next: Station, ballot: u8) -> Offer
-    ensures { result ≡ with_ballot next ballot }
+// The offer of the station that follows.
+#[tactic(auto, unfolding(crate::specs::Offers::with_ballot))]
+fn offer_of(next: Station) -> Offer
+    ensures { result ≡ offer_told next }
 {
     Offer {
         round: next.round,
@@ -41,38 +42,16 @@ fn offer_of(next: Station, ballot: u8) -> Offer
         z: next.z,
         grade: next.grade,
         garbled: next.garbled,
-        ballot,
+        ballot: ballot_of(next),
     }
-}
-
-// Every byte of both is compared.
-fn same(a: Offer, b: Offer) -> bool
-    ensures { result ≡ same a b }
-{
-    if a.round != b.round {
-        return false;
-    }
-    if a.value != b.value {
-        return false;
-    }
-    if a.z != b.z {
-        return false;
-    }
-    if a.grade != b.grade {
-        return false;
-    }
-    if a.garbled != b.garbled {
-        return false;
-    }
-    a.ballot == b.ballot
 }
 
 // The station that follows, if the offer is the one that leads to it.
+#[tactic(auto, unfolding(crate::specs::Offers::comparing_verdict, crate::specs::Offers::same, refusal::specs::Cause::refused_if))]
 fn compared(following: Station, o: Offer) -> Result<Station, Cause>
     ensures { result ≡ answered (comparing_verdict o (offer_told following)) following }
 {
-    let right = offer_of(following, ballot_of(following));
-    if same(o, right) {
+    if o == offer_of(following) {
         Ok(following)
     } else {
         Err(Cause::Offer)
@@ -84,7 +63,7 @@ pub fn show(s: Station, row: &[u8]) -> Result<Offer, Cause>
     ensures { Shows s row.now result }
 {
     let next = station::advance(s, row)?;
-    Ok(offer_of(next, ballot_of(next)))
+    Ok(offer_of(next))
 }
 
 // The station after the row, if the offer is the one that this station and row give.

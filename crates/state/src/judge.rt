@@ -10,50 +10,37 @@ use line::Line;
 use refusal::cause;
 use refusal::cause::{Cause, Verdict};
 
-// R + 1, the round of a done station.
+// R + 1, the round of a done station. R goes by t alone.
 fn last_round(t: u8) -> usize
     ensures { result ≡ rounds t + 1 }
 {
-    let line = Line { n: 0, t, upper: 0 };
-    line.rounds() + 1
+    Line { n: 0, t, upper: 0 }.rounds() + 1
 }
 
 // A round outside 1 to R + 1, a value above 1, z or grade above 2, or a count of garbled rounds that is not below the round.
-fn foreign_state(t: u8, round: u8, value: u8, z: u8, grade: u8, garbled: u8) -> bool
-    ensures { result ≡ foreign_state t round value z grade garbled }
+#[tactic(auto, unfolding(crate::specs::Judgement::foreign_state, header::specs::Header::outside))]
+fn foreign_state(s: Station) -> bool
+    ensures { result ≡ foreign_state s.t s.round s.value s.z s.grade s.garbled }
 {
-    if round < 1 {
-        return true;
-    }
-    if last_round(t) < round as usize {
-        return true;
-    }
-    if 1 < value {
-        return true;
-    }
-    if 2 < z {
-        return true;
-    }
-    if 2 < grade {
-        return true;
-    }
-    round <= garbled
+    !(1..=last_round(s.t)).contains(&usize::from(s.round))
+        || s.value > 1
+        || s.z > 2
+        || s.grade > 2
+        || s.garbled >= s.round
 }
 
+#[tactic(auto, unfolding(crate::specs::Judgement::is_done))]
 pub fn is_done(t: u8, round: u8) -> bool
     ensures { result ≡ is_done t round }
 {
-    round as usize == last_round(t)
+    usize::from(round) == last_round(t)
 }
 
 // Cause 7 of a station's state.
 fn state(s: Station) -> Verdict
     ensures { result ≡ state_verdict s }
 {
-    cause::refused_if(
-        foreign_state(s.t, s.round, s.value, s.z, s.grade, s.garbled),
-        Cause::StationState,
-    )
+    cause::refused_if(foreign_state(s), Cause::StationState)
 }
 
 // Causes 2, 3 and 4 of a station's numbers.

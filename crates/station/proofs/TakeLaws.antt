@@ -5,11 +5,10 @@ use mathlib.Core.Bool.{Bool, true, false}
 use mathlib.Core.List.{List}
 use native.Mathlib.Omega.{arith}
 use lib.Dec.{eqb}
-use lib.ListN.{length}
 use borrow.Author.Tests.{eqb-false}
 use Rattle.std.specs.Prelude.{if◌then◌else◌}
 use Rattle.line.specs.Line.{rounds}
-use Rattle.line.specs.Ballot.{read_sender, read_king, is_garbled, bit_or, sender_value}
+use Rattle.line.specs.Ballot.{read_sender, read_first, read_second, read_king, is_garbled, bit_or, sender_value}
 use Rattle.line.specs.declared.ballot.Ballot.{Ballot}
 use Rattle.broadcast.specs.Exchange.{firsts, seconds, z_from, z_of, y_from, y_of, for_y, grade_of}
 use Rattle.broadcast.specs.Broadcast.{from_sender, first_of, second_of, from_king, part, obey}
@@ -24,10 +23,10 @@ use Rattle.step.specs.Noted.{noted}
 use Rattle.step.proofs.StepLaws.{told_as, taken_as, noted_low}
 use Rattle.state.specs.declared.Station.{Station}
 use Rattle.state.specs.Judgement.{Ready}
-use Rattle.station.specs.declared.tally.FirstTally.{FirstTally}
-use Rattle.station.specs.declared.tally.SecondTally.{SecondTally}
 use Rattle.station.specs.Automaton.{setup_of, state_of, in_state}
-use Rattle.station.specs.Tallies.{found, CountsFirst, CountsSecond}
+use Rattle.station.specs.declared.tally.Tally.{Tally}
+use Rattle.station.specs.Tallies.{found, Counts}
+use Rattle.station.proofs.TallyLaws.{equal_is, garbled_is, zeros_are, ones_are, garbled_are}
 
 -- the ballot, by the part
 pub part_told : (s : Station) (p : Part) (b : ℕ) → p ≡ as_part (part s.round)
@@ -70,48 +69,27 @@ module _ (s : Station) (row : List ℕ) (r : Station) where
       rw (b, a, noted_is h (King p) k q) at g
 
   -- and in an exchange by the tally of a row that has n ballots
-  module _ (ready : Ready s row) where
-    whole : length row ≡ s.n
-    whole = ready.whole
-
-    pub first_taken : (t : FirstTally) (z : ℕ) → CountsFirst (length row) s.value (at row) t → z ≡ z_from s.n s.upper s.value t.equal
+  module _ (ready : Ready s row) (t : Tally) where
+    pub first_taken : (equal z : ℕ) → Counts read_first row t → equal ≡ (if eqb s.value 0 then t.zeros else t.ones) → z ≡ z_from s.n s.upper s.value equal
         → r ≡ in_state s (next (state_of s) s.value z s.grade (noted s.garbled t.garbled))
         → r ≡ in_state s (taken (setup_of s) (state_of s) (at row) (of_part First))
     unfolding taken moved z_of
-    first_taken t z a b g =
-        let q : t.garbled ≡ found s.n (s.sender - 1) First (at row) = rw whole at (a.garbled_is (s.sender - 1)) in
-        let e : t.equal ≡ firsts s.n s.value (at row) = rw whole at a.equal_is in
+    first_taken equal z k a b g =
+        let q : t.garbled ≡ found s.n (s.sender - 1) First (at row) = rw ready.whole at (garbled_is row t k (s.sender - 1)) in
+        let e : equal ≡ firsts s.n s.value (at row) = rw ready.whole at (a ∙ equal_is row t k s.value ready.sound.value_bit) in
         rw (b, e, noted_is ready First t.garbled q) at g
 
-    module _ (t : SecondTally) (tally : CountsSecond (length row) (at row) t) (y grade : ℕ) where
-      zeros : ℕ
-      zeros = t.zeros
-
-      ones : ℕ
-      ones = t.ones
-
-      a : zeros ≡ seconds (length row) 0 (at row)
-      unfolding zeros
-      a = tally.zeros_are
-
-      b : ones ≡ seconds (length row) 1 (at row)
-      unfolding ones
-      b = tally.ones_are
-
-      grade_is : grade_of s.n s.t s.upper (for_y zeros ones) ≡ grade_of s.n s.t s.upper (seconds s.n (y_of s.n (at row)) (at row))
-      grade_is = rw (a, b, whole) (ap (grade_of s.n s.t s.upper) (for_y_is s.n (at row)))
-
-      y_is : y_from zeros ones ≡ y_of s.n (at row)
-      unfolding y_of
-      y_is = rw (a, b, whole)
-
-      pub second_taken : y ≡ y_from t.zeros t.ones → grade ≡ grade_of s.n s.t s.upper (for_y t.zeros t.ones)
-          → r ≡ in_state s (next (state_of s) y s.z grade (noted s.garbled t.garbled))
-          → r ≡ in_state s (taken (setup_of s) (state_of s) (at row) (of_part Second))
-      unfolding taken moved zeros ones
-      second_taken e f g =
-          let q : t.garbled ≡ found s.n (s.sender - 1) Second (at row) = rw whole at (tally.garbled_is (s.sender - 1)) in
-          rw (e ∙ y_is, f ∙ grade_is, noted_is ready Second t.garbled q) at g
+    pub second_taken : (y grade : ℕ) → Counts read_second row t → y ≡ y_from t.zeros t.ones → grade ≡ grade_of s.n s.t s.upper (for_y t.zeros t.ones)
+        → r ≡ in_state s (next (state_of s) y s.z grade (noted s.garbled t.garbled))
+        → r ≡ in_state s (taken (setup_of s) (state_of s) (at row) (of_part Second))
+    unfolding taken moved y_of
+    second_taken y grade k e f g =
+        let q : t.garbled ≡ found s.n (s.sender - 1) Second (at row) = rw ready.whole at (garbled_are row t k (s.sender - 1)) in
+        let a : t.zeros ≡ seconds s.n 0 (at row) = rw ready.whole at (zeros_are row t k) in
+        let b : t.ones ≡ seconds s.n 1 (at row) = rw ready.whole at (ones_are row t k) in
+        let y_is : y ≡ y_from (seconds s.n 0 (at row)) (seconds s.n 1 (at row)) = rw (a, b) at e in
+        let grade_is : grade ≡ grade_of s.n s.t s.upper (seconds s.n (y_of s.n (at row)) (at row)) = (rw (a, b) at f) ∙ ap (grade_of s.n s.t s.upper) (for_y_is s.n (at row)) in
+        rw (y_is, grade_is, noted_is ready Second t.garbled q) at g
 
 -- ---- a king's round has one of the t + 1 kings, who is a station
 

@@ -7,12 +7,14 @@ ghost use Rattle.step.specs.declared.Part.TheVariants.{Sender, First, Second, Ki
 ghost use Rattle.station.specs.Automaton.{setup_of, state_of, in_state, opened_station, result_of};
 ghost use Rattle.state.specs.Judgement.{Sound, Ready};
 
-use crate::{StationResult, tally};
+use crate::StationResult;
+use crate::tally::Tally;
 use line::{Line, ballot};
 use state::{Station, judge};
 use step::Part;
 
 // Before round 1: z is blank and the grade 0 until they are set, and no round is counted.
+#[tactic(auto, unfolding(crate::specs::Automaton::opened_station, broadcast::specs::Station::opened))]
 pub(crate) fn opened(n: u8, t: u8, upper: u8, sender: u8, own: u8, value: u8) -> Station
     ensures { result ≡ opened_station n t upper sender own value }
 {
@@ -40,22 +42,18 @@ pub(crate) fn tell(s: Station) -> u8
 }
 
 // The next round, with these; in the round that ends so many of the expected ballots were garbled.
+#[tactic(auto, unfolding(broadcast::specs::Station::next))]
 fn next(s: Station, value: u8, z: u8, grade: u8, found: u8) -> Station
     requires { s.round < 255 }
     ensures { result ≡ in_state s (next (state_of s) value z grade (noted s.garbled found)) }
 {
-    let garbled = step::noted(s.garbled, found);
     Station {
-        n: s.n,
-        t: s.t,
-        upper: s.upper,
-        sender: s.sender,
-        own: s.own,
         round: s.round + 1,
         value,
         z,
         grade,
-        garbled,
+        garbled: step::noted(s.garbled, found),
+        ..s
     }
 }
 
@@ -64,8 +62,7 @@ fn take_sender(s: Station, row: &[u8]) -> Station
     requires { Ready s row.now }
     ensures { result ≡ in_state s (taken (setup_of s) (state_of s) (at row.now) (of_part Sender)) }
 {
-    let from = (s.sender - 1) as usize;
-    let heard = ballot::read_sender(row[from]);
+    let heard = ballot::read_sender(row[usize::from(s.sender - 1)]);
     next(s, step::x(heard), s.z, s.grade, heard.garbled())
 }
 
@@ -74,8 +71,8 @@ fn take_first(s: Station, row: &[u8]) -> Station
     requires { Ready s row.now }
     ensures { result ≡ in_state s (taken (setup_of s) (state_of s) (at row.now) (of_part First)) }
 {
-    let tally = tally::firsts(row, s.value);
-    let z = step::z(s.n, s.upper, s.value, tally.equal);
+    let tally = Tally::of(row, ballot::read_first);
+    let z = step::z(s.n, s.upper, s.value, tally.votes(s.value));
     next(s, s.value, z, s.grade, tally.garbled)
 }
 
@@ -84,7 +81,7 @@ fn take_second(s: Station, row: &[u8]) -> Station
     requires { Ready s row.now }
     ensures { result ≡ in_state s (taken (setup_of s) (state_of s) (at row.now) (of_part Second)) }
 {
-    let tally = tally::seconds(row);
+    let tally = Tally::of(row, ballot::read_second);
     let y = step::y(tally.zeros, tally.ones);
     let grade = step::grade(s.n, s.t, s.upper, tally.zeros, tally.ones);
     next(s, y, s.z, grade, tally.garbled)
@@ -95,7 +92,7 @@ fn take_king(s: Station, row: &[u8], king: u8) -> Station
     requires { (Ready s row.now) × (king < s.n) }
     ensures { result ≡ in_state s (taken (setup_of s) (state_of s) (at row.now) (of_part (King king))) }
 {
-    let heard = ballot::read_king(row[king as usize]);
+    let heard = ballot::read_king(row[usize::from(king)]);
     let x = step::obey(s.grade, s.value, heard);
     next(s, x, s.z, s.grade, heard.garbled())
 }
@@ -105,8 +102,7 @@ pub(crate) fn take(s: Station, row: &[u8]) -> Station
     requires { Ready s row.now }
     ensures { result ≡ in_state s (advance (setup_of s) (state_of s) (at row.now)) }
 {
-    let part = step::part_of(s.round);
-    match part {
+    match step::part_of(s.round) {
         Part::Sender => take_sender(s, row),
         Part::First => take_first(s, row),
         Part::Second => take_second(s, row),
@@ -115,15 +111,15 @@ pub(crate) fn take(s: Station, row: &[u8]) -> Station
 }
 
 // The result.
+#[tactic(auto, unfolding(crate::specs::Automaton::result_of, broadcast::specs::Station::result, state::specs::Judgement::is_done))]
 pub(crate) fn result(s: Station) -> StationResult
     ensures { result ≡ result_of s }
 {
     if judge::is_done(s.t, s.round) {
-        let flag = step::flag(s.grade);
         StationResult::Done {
             value: s.value,
             grade: s.grade,
-            flag,
+            flag: step::flag(s.grade),
             garbled: s.garbled,
         }
     } else {

@@ -1,73 +1,41 @@
-// What a row has in a round of an exchange: how many ballots count for a value, and how many are garbled. An accepted row has at most 32 ballots, so that a count
-// fits a byte.
-ghost use Rattle.std.specs.Prelude.{◌≡◌, ◌≤◌, eqb, length, if◌then◌else◌};
-ghost use Rattle.line.specs.Ballot.{blank, bit_or};
-ghost use Rattle.broadcast.specs.Station.{at};
-ghost use Rattle.station.specs.Tallies.{CountsFirst, CountsSecond};
+// What a row has in a round of an exchange: how many ballots count for each value, and how many are garbled. An accepted row has at most 32 ballots, so that a
+// count fits a byte.
+ghost use Rattle.std.specs.Prelude.{◌≡◌, ◌≤◌, ℕ, eqb, length, if◌then◌else◌};
+ghost use Rattle.line.specs.declared.ballot.Ballot.{Ballot};
+ghost use Rattle.station.specs.Tallies.{Reads, Counts};
 
+use line::Line;
 use line::ballot::Ballot;
-use line::{Line, ballot};
 
-// Of the first round: how many equal v.
-#[derive(Clone, Copy)]
-pub(crate) struct FirstTally {
-    pub equal: u8,
-    pub garbled: u8,
-}
-
-// Of the second: the zeros and the ones.
-#[derive(Clone, Copy)]
-pub(crate) struct SecondTally {
+#[derive(Clone, Copy, Default)]
+pub(crate) struct Tally {
     pub zeros: u8,
     pub ones: u8,
     pub garbled: u8,
 }
 
-// 1 for a ballot that counts for v, otherwise 0.
-fn hit(ballot: Ballot, v: u8) -> u8
-    ensures { result ≡ (if eqb (bit_or blank ballot) v then 1 else 0) }
-{
-    if ballot.bit_or(Line::BLANK) == v {
-        1
-    } else {
-        0
+impl Tally {
+    // Of a row whose ballots are read so. A loop, since a sum for each of the three would take three passes.
+    pub(crate) fn of<F: Fn(u8) -> Ballot>(row: &[u8], read: F) -> Tally
+        requires few { length row.now ≤ 32 }
+        requires reader { F.IsAlwaysCallable read }
+        ensures { (reading : ℕ → Ballot) → Reads (F.post read) reading → Counts reading row.now result }
+    {
+        let mut tally = Tally::default();
+        for b in row {
+            let ballot = read(*b);
+            let bit = ballot.bit_or(Line::BLANK);
+            tally.zeros += u8::from(bit == 0);
+            tally.ones += u8::from(bit == 1);
+            tally.garbled += ballot.garbled();
+        }
+        tally
     }
-}
 
-pub(crate) fn firsts(row: &[u8], v: u8) -> FirstTally
-    requires { length row.now ≤ 32 }
-    ensures { CountsFirst (length row.now) v (at row.now) result }
-{
-    let mut equal: u8 = 0;
-    let mut garbled: u8 = 0;
-    let mut i: usize = 0;
-    while i < row.len() {
-        let ballot = ballot::read_first(row[i]);
-        equal += hit(ballot, v);
-        garbled += ballot.garbled();
-        i += 1;
-    }
-    FirstTally { equal, garbled }
-}
-
-pub(crate) fn seconds(row: &[u8]) -> SecondTally
-    requires { length row.now ≤ 32 }
-    ensures { CountsSecond (length row.now) (at row.now) result }
-{
-    let mut zeros: u8 = 0;
-    let mut ones: u8 = 0;
-    let mut garbled: u8 = 0;
-    let mut i: usize = 0;
-    while i < row.len() {
-        let ballot = ballot::read_second(row[i]);
-        zeros += hit(ballot, 0);
-        ones += hit(ballot, 1);
-        garbled += ballot.garbled();
-        i += 1;
-    }
-    SecondTally {
-        zeros,
-        ones,
-        garbled,
+    // How many count for v, a bit.
+    pub(crate) fn votes(self, v: u8) -> u8
+        ensures { result ≡ (if eqb v 0 then self.zeros else self.ones) }
+    {
+        if v == 0 { self.zeros } else { self.ones }
     }
 }

@@ -23,20 +23,16 @@ pub enum Part {
 }
 
 // The only place that knows which round is which part.
+#[tactic(auto, unfolding(broadcast::specs::Broadcast::part))]
 pub fn part_of(round: u8) -> Part
     ensures { result ≡ as_part (part round) }
 {
-    if round == 1 {
-        return Part::Sender;
+    match (round, round % 3) {
+        (1, _) => Part::Sender,
+        (_, 2) => Part::First,
+        (_, 0) => Part::Second,
+        _ => Part::King(round / 3 - 1),
     }
-    let turn = round % 3;
-    if turn == 2 {
-        return Part::First;
-    }
-    if turn == 0 {
-        return Part::Second;
-    }
-    Part::King(round / 3 - 1)
 }
 
 // The ballot of a station that speaks if it is the speaker, otherwise silence.
@@ -47,6 +43,7 @@ fn spoken(speaker: u8, own: u8, value: u8) -> u8
 }
 
 // What the station tells in each part.
+#[tactic(auto, unfolding(broadcast::specs::Station::told, broadcast::specs::Station::held, broadcast::specs::Broadcast::speaks))]
 pub fn told(part: Part, sender: u8, own: u8, value: u8, z: u8) -> u8
     ensures { result ≡ told sender own value z (of_part part) }
 {
@@ -59,13 +56,11 @@ pub fn told(part: Part, sender: u8, own: u8, value: u8, z: u8) -> u8
 }
 
 // The count of rounds with a garbled ballot after a round that has so many: one more, if any, and not beyond a byte.
+#[tactic(auto, unfolding(crate::specs::Noted::noted))]
 pub fn noted(garbled: u8, found: u8) -> u8
     ensures { result ≡ noted garbled found }
 {
-    if found == 0 {
-        return garbled;
-    }
-    if garbled < 255 { 1 + garbled } else { garbled }
+    garbled.saturating_add(u8::from(found != 0))
 }
 
 // Round 1: x, from what was heard of the sender.
@@ -79,10 +74,11 @@ pub fn x(heard: Ballot) -> u8
 pub fn less(n: u8, threshold: u8) -> u8
     ensures { result ≡ n - threshold }
 {
-    if threshold <= n { n - threshold } else { 0 }
+    n.saturating_sub(threshold)
 }
 
 // Step 2 of the exchange: z, from how many ballots equal x.
+#[tactic(auto, unfolding(broadcast::specs::Exchange::z_from))]
 pub fn z(n: u8, upper: u8, x: u8, count: u8) -> u8
     ensures { result ≡ z_from n upper x count }
 {
@@ -91,41 +87,38 @@ pub fn z(n: u8, upper: u8, x: u8, count: u8) -> u8
 }
 
 // Step 4: y, from the zeros and the ones.
+#[tactic(auto, unfolding(broadcast::specs::Exchange::y_from))]
 pub fn y(zeros: u8, ones: u8) -> u8
     ensures { result ≡ y_from zeros ones }
 {
-    if ones <= zeros { 0 } else { 1 }
+    u8::from(zeros < ones)
 }
 
-// The count for y.
-fn for_y(zeros: u8, ones: u8) -> u8
-    ensures { result ≡ for_y zeros ones }
-{
-    if y(zeros, ones) == 0 { zeros } else { ones }
-}
-
-// Step 5: the grade.
+// Step 5: the grade. The count for y is the larger one.
+#[tactic(auto, unfolding(broadcast::specs::Exchange::grade_of, broadcast::specs::Exchange::for_y, broadcast::specs::Exchange::y_from))]
 pub fn grade(n: u8, t: u8, upper: u8, zeros: u8, ones: u8) -> u8
     ensures { result ≡ grade_of n t upper (for_y zeros ones) }
 {
-    let count = for_y(zeros, ones);
+    let count = zeros.max(ones);
     if less(n, t) <= count {
-        return 2;
+        2
+    } else if less(n, upper) <= count {
+        1
+    } else {
+        0
     }
-    if less(n, upper) <= count {
-        return 1;
-    }
-    0
 }
 
 // 1 when the grade is below 2.
+#[tactic(auto, unfolding(broadcast::specs::Exchange::flag_of))]
 pub fn flag(grade: u8) -> u8
     ensures { result ≡ flag_of grade }
 {
-    if grade < 2 { 1 } else { 0 }
+    u8::from(grade < 2)
 }
 
 // The value after the king's ballot: its bit at grade 0, if it has one, otherwise the own y.
+#[tactic(auto, unfolding(broadcast::specs::Broadcast::obey, line::specs::Ballot::king_value))]
 pub fn obey(grade: u8, y: u8, heard: Ballot) -> u8
     ensures { result ≡ obey grade y heard }
 {

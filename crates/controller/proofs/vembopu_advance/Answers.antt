@@ -1,5 +1,4 @@
 -- `vembopu_advance` meets its contract, by what `station::advance` promises.
-use borrow.Author.Rules.{rules}
 use Rattle.controller.proofs.WordLaws.{advanced_as}
 use Rattle.controller.proofs.vembopu_advance.Goals as goal
 

@@ -1,5 +1,4 @@
 -- `vembopu_open` meets its contract, by what `station::open` promises.
-use borrow.Author.Rules.{rules}
 use Rattle.controller.proofs.WordLaws.{opened_as}
 use Rattle.controller.proofs.vembopu_open.Goals as goal
 

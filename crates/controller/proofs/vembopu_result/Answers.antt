@@ -1,5 +1,4 @@
 -- `vembopu_result` meets its contract, by what `station::result` promises.
-use borrow.Author.Rules.{rules}
 use Rattle.controller.proofs.WordLaws.{result_as}
 use Rattle.controller.proofs.vembopu_result.Goals as goal
 

@@ -1,5 +1,4 @@
 -- `judge::state` meets its contract.
-use borrow.Author.Rules.{rules}
 use Rattle.state.specs.Judgement.{state_verdict}
 use Rattle.state.proofs.judge.state.Goals as goal
 

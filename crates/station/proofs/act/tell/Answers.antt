@@ -1,5 +1,4 @@
 -- `act::tell` meets its contract.
-use borrow.Author.Rules.{rules}
 use Rattle.station.proofs.TakeLaws.{part_told}
 use Rattle.station.proofs.act.tell.Goals as goal
 
