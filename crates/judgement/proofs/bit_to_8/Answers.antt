@@ -1,5 +1,4 @@
 -- `bit_to_8` meets its contract: the causes are joined in their order.
-use borrow.Author.Rules.{rules}
 use Rattle.refusal.proofs.VerdictLaws.{judged}
 use Rattle.judgement.specs.Judgement.{bit_to_8}
 use Rattle.judgement.proofs.bit_to_8.Goals as goal

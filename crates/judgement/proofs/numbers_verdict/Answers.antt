@@ -1,4 +1,3 @@
-use borrow.Author.Rules.{rules}
 use mathlib.Core.Path.{sym, ◌∙◌}
 use Rattle.refusal.specs.declared.cause.Cause.TheVariants.{RecordForm}
 use Rattle.refusal.proofs.VerdictLaws.{judged, refused_true, refused_false}

@@ -1,5 +1,4 @@
 -- `to_6` meets its contract: cause 1 comes first.
-use borrow.Author.Rules.{rules}
 use mathlib.Core.Path.{sym, ◌∙◌}
 use Rattle.refusal.proofs.VerdictLaws.{judged, refused_true, refused_false}
 use Rattle.refusal.specs.declared.cause.Cause.TheVariants.{SheetForm}
