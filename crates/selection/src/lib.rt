@@ -38,7 +38,7 @@ pub fn leaps(marks: u32, n: u8) -> [u8; 33]
     to
 }
 
-// How many bytes are to be written in a round: leaping from one marked station to the next.
+// How many bytes are to be written in a round: leaping from one marked station to the next, which no range does.
 fn in_round(round: &[u8], marks: u32, to: &[u8; 33], n: usize) -> usize
     requires { (n ≤ 32) × (length round.now ≡ n * n) × Leaps marks n to.now }
     ensures { result ≡ count (n * n) (to_write n marks round.now) }
