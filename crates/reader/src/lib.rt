@@ -6,6 +6,7 @@ ghost use Rattle.reader.specs.Reading.{Reads, ReadsBit};
 ghost use Rattle.reader.specs.Loops.{Opened, ReadsPart};
 
 use crate::fate::Walked;
+use crate::fill::Placed;
 use layout::Header;
 use refusal::cause::{Cause, Verdict};
 
@@ -28,16 +29,11 @@ fn read_chain(sheet: &[u8], start: usize, table: &mut [u8]) -> Reading
     ensures { ReadsPart sheet.now start table.old table.new result }
 {
     let header = layout::header_of(sheet);
-    let mut places = [0u32; walk::RECORDS];
-    let mut ballots = [0u8; walk::RECORDS];
-    let walked = walk::walk(sheet, header, &mut places, &mut ballots);
+    let mut kept = [Placed::default(); walk::RECORDS];
+    let walked = walk::walk(sheet, header, &mut kept);
     match walked {
         Walked::Accepted(m) => {
-            if table.len() == layout::tables_len(sheet) {
-                fill::fill(&places, &ballots, m, table);
-            } else {
-                fill::fill_part(&places, &ballots, m, start, table);
-            }
+            fill::fill(&kept[..m], start, table);
             Reading::Accepted(header)
         }
         Walked::Refused(c) => Reading::Refused(c),

@@ -1,5 +1,4 @@
 -- `read` meets its contract: causes 1 to 8 come first.
-use borrow.Author.Rules.{rules}
 use mathlib.Core.Path.{sym, ◌∙◌}
 use Rattle.reader.proofs.PromiseLaws.{opened_all, all_read, refused_opening}
 use Rattle.reader.proofs.read.Goals as goal

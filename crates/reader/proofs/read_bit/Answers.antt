@@ -1,5 +1,4 @@
 -- `read_bit` meets its contract: causes 1 to 8, and 11 of the bit asked for, come first.
-use borrow.Author.Rules.{rules}
 use mathlib.Core.Path.{sym, ◌∙◌}
 use Rattle.reader.proofs.PromiseLaws.{opened_bit, bit_read, refused_bit, bit_fits}
 use Rattle.reader.proofs.read_bit.Goals as goal
