@@ -1,13 +1,13 @@
 -- Laws of the sheet's form: cause 1 lets through exactly the sheets of document 01's form. Assumes nothing.
-use Prim.Native.Nat.{ℕ, ◌+◌, ◌*◌, ◌<◌}
+use Prim.Native.Nat.{ℕ, ◌+◌, ◌*◌}
 use Rattle.refusal.specs.Cause.{no_cause}
 use mathlib.Core.Path.{◌≡◌}
-use mathlib.Core.Bool.{true, not, or-true}
+use mathlib.Core.Bool.{not}
 use mathlib.Core.List.{List}
 use native.Mathlib.Omega.{arith}
 use lib.Dec.{ltb, eqb}
 use lib.ListN.{length}
-use borrow.Author.Tests.{eqb-true, eq-eqb, ltb-false, lt-ltb, le-ltb, not-false}
+use borrow.Author.Tests.{eqb-true, eq-eqb, ltb-false, le-ltb, not-false}
 use Rattle.refusal.proofs.VerdictLaws.{refused_false, accepted_false, neither}
 use Rattle.layout.specs.Layout.{most_records, records}
 use Rattle.judgement.specs.Judgement.{ill_formed, sheet_form}
@@ -38,8 +38,3 @@ module _ (s : List ℕ) where
         length_is = eqb-true (length s) (12 + 8 * records s) (not-false whole a);
         most = ltb-false most_records (records s) b;
       }
-
-  -- more records than a sheet may have
-  pub form_many : most_records < records s → ill_formed s ≡ true
-  unfolding ill_formed
-  form_many h = rw (lt-ltb most_records (records s) h) (or-true (not (eqb (length s) (12 + 8 * records s))))

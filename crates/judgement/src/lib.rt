@@ -18,10 +18,7 @@ fn ill_formed(sheet: &[u8]) -> bool
     ensures { result ≡ ill_formed sheet.now }
 {
     let k = layout::records(sheet);
-    if layout::RECORDS < k {
-        return true;
-    }
-    sheet.len() != 12 + 8 * k
+    layout::RECORDS < k || sheet.len() != 12 + 8 * k
 }
 
 // Cause 1, then 15, then 2 to 6.
@@ -60,20 +57,15 @@ pub fn bit_to_8(sheet: &[u8], b: u8, table_len: usize) -> Verdict
     bit_there(sheet, b)
 }
 
-// Cause 11, of a record's numbers. `last` is R. A bit below `bits` and a zero byte after it are one comparison of two bytes.
+// Cause 11, of a record's numbers. `last` is R.
 fn out_of_place(n: u8, last: u8, bits: u8, record: Record) -> bool
     ensures { result ≡ out_of_place n last bits «record» }
 {
-    if header::outside(1, last, record.round) {
-        return true;
-    }
-    if header::outside(1, n, record.from) {
-        return true;
-    }
-    if header::outside(1, n, record.to) {
-        return true;
-    }
-    (bits as u16) <= (record.bit as u16) + 256 * (record.rest as u16)
+    header::outside(1, last, record.round)
+        || header::outside(1, n, record.from)
+        || header::outside(1, n, record.to)
+        || bits <= record.bit
+        || record.rest != 0
 }
 
 // Cause 12, of a station's number.

@@ -4,7 +4,7 @@
 ghost use Rattle.std.specs.Prelude.{◌≡◌, ◌+◌, ◌*◌, ◌<◌, ◌≤◌, length};
 ghost use Rattle.layout.specs.Layout.{most_records, longest_sheet, header, table_wanted, tables_wanted, first, records};
 ghost use Rattle.layout.specs.Chain.{is_record};
-ghost use Rattle.layout.specs.Numbers.{numbers_from, no_numbers, record_at};
+ghost use Rattle.layout.specs.Numbers.{numbers_from, record_at};
 
 use line::Line;
 
@@ -29,7 +29,7 @@ pub struct Header {
 }
 
 // The numbers of a record. `rest` is its last byte.
-#[derive(Clone, Copy)]
+#[derive(Clone, Copy, Default)]
 pub struct Record {
     pub round: u8,
     pub from: u8,
@@ -44,15 +44,19 @@ pub struct Record {
 fn two(low: u8, high: u8) -> usize
     ensures { (result ≡ low + 256 * high) × (result < 65536) }
 {
-    (low as usize) + 256 * (high as usize)
+    usize::from(u16::from_le_bytes([low, high]))
 }
 
 // The header's numbers.
 pub fn header_of(sheet: &[u8]) -> Header
     ensures { result ≡ header sheet.now }
 {
-    let low = two(slices::at(sheet, 8), slices::at(sheet, 9));
-    let high = two(slices::at(sheet, 10), slices::at(sheet, 11));
+    let marks = [
+        slices::at(sheet, 8),
+        slices::at(sheet, 9),
+        slices::at(sheet, 10),
+        slices::at(sheet, 11),
+    ];
     Header {
         line: Line {
             n: slices::at(sheet, 0),
@@ -62,7 +66,7 @@ pub fn header_of(sheet: &[u8]) -> Header
         sender: slices::at(sheet, 3),
         value: slices::at(sheet, 4),
         w: slices::at(sheet, 5),
-        marks: (low as u32) + 65536 * (high as u32),
+        marks: u32::from_le_bytes(marks),
     }
 }
 
@@ -70,24 +74,15 @@ pub fn header_of(sheet: &[u8]) -> Header
 pub fn table_len(sheet: &[u8]) -> usize
     ensures { result ≡ table_wanted sheet.now }
 {
-    let line = Line {
-        n: slices::at(sheet, 0),
-        t: slices::at(sheet, 1),
-        upper: 0,
-    };
-    line.table_len()
+    header_of(sheet).line.table_len()
 }
 
 // The length of all bits' tables.
 pub fn tables_len(sheet: &[u8]) -> usize
     ensures { result ≡ tables_wanted sheet.now }
 {
-    let line = Line {
-        n: slices::at(sheet, 0),
-        t: slices::at(sheet, 1),
-        upper: 0,
-    };
-    line.tables_len(slices::at(sheet, 5))
+    let h = header_of(sheet);
+    h.line.tables_len(h.w)
 }
 
 // The index of the first record, or 0.
@@ -101,21 +96,14 @@ pub fn first(sheet: &[u8]) -> usize
 pub fn records(sheet: &[u8]) -> usize
     ensures { result ≡ records sheet.now }
 {
-    let bytes = sheet.len();
-    if bytes < 12 {
-        return 0;
-    }
-    (bytes - 12) / 8
+    sheet.len().saturating_sub(12) / 8
 }
 
 // Whether i is the index of a record: from 1 to k.
 pub fn is_record(sheet: &[u8], i: usize) -> bool
     ensures { result ≡ is_record sheet.now i }
 {
-    if i < 1 {
-        return false;
-    }
-    i <= records(sheet)
+    1 <= i && i <= records(sheet)
 }
 
 // The numbers of the record that starts at a byte.
@@ -134,27 +122,13 @@ fn numbers(sheet: &[u8], at: usize) -> Record
     }
 }
 
-// No record's numbers.
-fn nothing() -> Record
-    ensures { result ≡ no_numbers }
-{
-    Record {
-        round: 0,
-        from: 0,
-        to: 0,
-        ballot: 0,
-        next: 0,
-        bit: 0,
-        rest: 0,
-    }
-}
-
 // The numbers of the record with index i; zeros where no record has that index.
 pub fn record_at(sheet: &[u8], i: usize) -> Record
     ensures { result ≡ record_at sheet.now i }
 {
     if is_record(sheet, i) {
-        return numbers(sheet, 12 + 8 * (i - 1));
+        numbers(sheet, 12 + 8 * (i - 1))
+    } else {
+        Record::default()
     }
-    nothing()
 }

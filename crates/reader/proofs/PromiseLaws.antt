@@ -4,17 +4,17 @@ use Rattle.std.specs.declared.result.Result.{Result}
 use Rattle.std.specs.declared.result.Result.TheVariants.{Ok, Err}
 use mathlib.Core.Path.{◌≡◌, refl, ap, ◌∙◌}
 use mathlib.Core.List.{List}
-use native.Mathlib.Nat.{suc-mul, mul-le-mul_right}
+use native.Mathlib.Nat.{suc-mul, mul-le-mul_right, min-eq_left}
 use native.Mathlib.Omega.{arith}
-use lib.ListN.{length, take, drop}
-use lib.Seq.{take_all}
+use lib.ListN.{length, take, drop, length-take}
+use lib.Seq.{take_all, get_or-take}
 use borrow.Author.Tests.{leb-false, lt-leb}
 use mir.Syntax.{w64}
 use mir.Val.{Fits as FitsWord}
 use Rattle.line.specs.Width.{bits, part_of}
 use Rattle.line.proofs.LineLaws.{table_bound, product_fits}
 use Rattle.line.proofs.WidthLaws.{bits_most}
-use Rattle.refusal.specs.Cause.{◌or_else◌, code, written, given, no_cause, answered, values}
+use Rattle.refusal.specs.Cause.{◌or_else◌, code, written, given, no_cause, answered}
 use Rattle.header.specs.Header.{exact_length}
 use Rattle.refusal.specs.declared.cause.Cause.{Cause}
 use Rattle.refusal.specs.Cause.{Verdict}
@@ -24,8 +24,9 @@ use Rattle.layout.specs.declared.Header.{Header}
 use Rattle.layout.specs.Layout.{header, table_wanted, tables_wanted, most_records, records}
 use Rattle.layout.specs.Chain.{Fate, leaves, again, ends}
 use Rattle.judgement.specs.Judgement.{sheet_form, verdict_to_6, verdict_to_8, bit_there, bit_to_8, chain_verdict, sheet_verdict, bit_verdict}
-use Rattle.reader.specs.Reading.{table_of, bit_table, numbers_of, Reads, ReadsBit}
-use Rattle.reader.specs.Loops.{SoundHeader, Opened, ReadsPart, Whole, laid}
+use Rattle.reader.specs.Reading.{table_of, bit_table, numbers_of, reading_values, Reads, ReadsBit}
+use Rattle.reader.specs.Loops.{SoundHeader, none, Opened, ReadsPart, Kept, Whole, laid}
+use Rattle.reader.specs.declared.fill.Placed.{Placed}
 use Rattle.judgement.proofs.FormLaws.{form_sound}
 use Rattle.layout.proofs.ChainLaws.{fate}
 use Rattle.reader.proofs.TableLaws.{filled_length}
@@ -102,7 +103,7 @@ module _ (s : List ℕ) where
   number_by (Err c) h = refl
 
   -- and so are the values
-  values_by : (v : Verdict) (h : Header) → (values numbers_of) (answered v h) ≡ given v (numbers_of h)
+  values_by : (v : Verdict) (h : Header) → reading_values (answered v h) ≡ given v (numbers_of h)
   values_by (Ok _) h = refl
   values_by (Err c) h = refl
 
@@ -145,13 +146,16 @@ module _ (s : List ℕ) where
   refused_later start table f c e = record { fate = f; answer_is = rw e; table_is = rw e }
 
   -- read by a walk that kept all, and filled with it
-  pub whole_read : (start : ℕ) (table table₁ places ballots : List ℕ) (m : ℕ) (h : Header) → start + length table ≤ tables_wanted s → Whole s m places ballots
-      → h ≡ header s → table₁ ≡ laid places ballots start (length table) m → ReadsPart s start table table₁ (Ok h)
-  whole_read start table table₁ places ballots m h o w q e = record {
-    fate = ends m w.chain;
-    answer_is = rw (w.judged, q);
-    table_is = rw w.judged (e ∙ laid_filled s places ballots start (length table) m o w.kept);
-  }
+  pub whole_read : (start : ℕ) (table table₁ : List ℕ) (kept : List Placed) (m : ℕ) (h : Header) → start + length table ≤ tables_wanted s → Whole s m kept
+      → h ≡ header s → table₁ ≡ laid (take m kept) start (length table) (length (take m kept)) → ReadsPart s start table table₁ (Ok h)
+  whole_read start table table₁ kept m h o w q e =
+      let k : length (take m kept) ≡ m = simp length-take (min-eq_left (omega (arith, w.kept_length, w.most))) in
+      let all : Kept s m (take m kept) = λ a l. get_or-take m kept a none l ∙ w.all_kept a l in
+      record {
+        fate = ends m w.chain;
+        answer_is = rw (w.judged, q);
+        table_is = rw w.judged (rw k at e ∙ laid_filled s (take m kept) start (length table) m o all);
+      }
 
   -- the part that is all of them
   all_written : (size : ℕ) (table : List ℕ) (f : Fate s) → size ≡ tables_wanted s

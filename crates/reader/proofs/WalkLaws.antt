@@ -6,7 +6,7 @@ use mathlib.Core.Path.{◌≡◌, refl, sym, ap, ◌∙◌}
 use mathlib.Core.Logic.{◌≢◌, ◌⊎◌, ⊎_elim}
 use mathlib.Core.Bool.{Bool, true, false}
 use mathlib.Core.List.{List}
-use native.Mathlib.Nat.{eq-or-lt_of_le, lt_of_lt_of_le, mul-le-mul, min-eq_left, min-le_left}
+use native.Mathlib.Nat.{eq-or-lt_of_le, lt_of_lt_of_le, min-eq_left, min-le_left}
 use native.Mathlib.Numerals.{add-one}
 use native.Mathlib.Omega.{arith}
 use lib.Dec.{leb}
@@ -16,14 +16,16 @@ use lib.Seq.{get_or-set_same, get_or-set_other, set_out, take-set-le, take-set-l
 use borrow.Author.Tests.{lt-ltb, le-ltb, le-leb, lt-leb}
 use Rattle.std.specs.Prelude.{if◌then◌else◌}
 use Rattle.line.specs.Line.{rounds}
-use Rattle.line.specs.Width.{largest_tables}
+use Rattle.line.specs.Width.{bits, largest_tables}
+use Rattle.line.proofs.WidthLaws.{tables_bound}
+use Rattle.layout.specs.declared.Header.{Header}
 use Rattle.line.proofs.LineLaws.{place_below}
 use Rattle.line.proofs.CountLaws.{le_or_lt}
 use Rattle.refusal.specs.Cause.{◌or_else◌, no_cause}
 use Rattle.refusal.specs.declared.cause.Cause.{Cause}
 use Rattle.refusal.specs.declared.cause.Cause.TheVariants.{ChainLeaves, ChainRepeats}
 use Rattle.refusal.specs.Cause.{Verdict}
-use Rattle.layout.specs.Layout.{header, tables_wanted, records, ballot, next, first}
+use Rattle.layout.specs.Layout.{header, tables_wanted, records, most_records, ballot, first}
 use Rattle.layout.specs.Chain.{Record, reached, Fate, leaves, again, ends}
 use Rattle.layout.specs.Numbers.{record_at}
 use Rattle.layout.specs.declared.Record as numbers
@@ -33,9 +35,8 @@ use Rattle.judgement.specs.Judgement.{record_verdict, records_verdict, chain_ver
 use Rattle.judgement.proofs.RangeLaws.{InNumbers, judged_by_numbers}
 use Rattle.reader.specs.Reading.{place_of, filled}
 use Rattle.reader.specs.Loops as loops
-use Rattle.reader.specs.Loops.{Lined, place_by, record_by, Taken, walked_by, Hit, Kept, Whole, Told, Fated, Inside, put_at, laid}
-use Rattle.reader.proofs.PlaceLaws.{place_inside}
-use Rattle.reader.proofs.TableLaws.{judged, judged_place}
+use Rattle.reader.specs.Loops.{SoundHeader, none, place_by, record_by, Taken, walked_by, Hit, kept_of, Kept, Whole, Told, Fated, put_at, laid}
+use Rattle.reader.specs.declared.fill.Placed.{Placed}
 use Rattle.reader.proofs.SeenLaws.{judged_by_seen}
 
 -- ---- verdicts
@@ -47,46 +48,38 @@ or_else_joins (Err d) b c = refl
 -- ---- what is handed on
 
 -- the place of a record whose numbers are in their ranges
-pub place_most : (n last bits : ℕ) (r : numbers.Record) → InNumbers n last bits r → n ≤ 32 → last ≤ 36 → bits ≤ 8 → place_by n last r < largest_tables
+pub place_most : (h : Header) (r : numbers.Record) → SoundHeader h → InNumbers h.line.n (rounds h.line.t) (bits h.w) r → place_by h.line r < largest_tables
 unfolding place_by
-place_most n last bits r w few short narrow =
+place_most h r sound w =
+    let n = h.line.n in
+    let last = rounds h.line.t in
     let inside =
     place_below n r.round (r.from - 1) (r.to - 1) w.round_low (omega (arith, w.from_low, w.from_high)) (omega (arith, w.to_low, w.to_high)) last w.round_high in
-    lt_of_lt_of_le (digits_lt w.bit_below inside) (mul-le-mul narrow (mul-le-mul (mul-le-mul short few) few))
-
--- a table of silence is as long as was asked for
-pub silent_length : (table : List ℕ) (size : ℕ) → table ≡ replicate size 255 → length table ≡ size
-silent_length table size e = rw e (length-replicate size 255)
-
-pub silent_still : (table : List ℕ) (size : ℕ) → table ≡ replicate size 255 → table ≡ replicate (length table) 255
-silent_still table size e = e ∙ ap (λ (n : ℕ). replicate n 255) (sym (silent_length table size e))
+    lt_of_lt_of_le (digits_lt w.bit_below inside) (tables_bound n h.line.t h.line.upper h.w sound.most sound.fits sound.narrow)
 
 -- ---- the part of the tables
 
 -- its length stays, and one ballot more is put into it
-pub put_length : (table : List ℕ) (start p ballot : ℕ) → length (put_at table start p ballot) ≡ length table
+pub put_length : (table : List ℕ) (start : ℕ) (p : Placed) → length (put_at table start p) ≡ length table
 unfolding put_at
-put_length table start p ballot = go (leb start p)
+put_length table start p = go (leb start p.place)
   where
-    go : (b : Bool) → length (if b then set table (p - start) ballot else table) ≡ length table
-    go true = length-set table (p - start) ballot
+    go : (b : Bool) → length (if b then set table (p.place - start) p.ballot else table) ≡ length table
+    go true = length-set table (p.place - start) p.ballot
     go false = refl
 
-pub laid_length : (places ballots : List ℕ) (start size m : ℕ) → length (laid places ballots start size m) ≡ size
+pub laid_length : (kept : List Placed) (start size m : ℕ) → length (laid kept start size m) ≡ size
 unfolding laid
-laid_length places ballots start size zero = length-replicate size 255
-laid_length places ballots start size (suc m) = put_length _ _ _ _ ∙ laid_length places ballots start size m
+laid_length kept start size zero = length-replicate size 255
+laid_length kept start size (suc m) = put_length _ _ _ ∙ laid_length kept start size m
 
-pub laid_turn : (places ballots table : List ℕ) (start size a : ℕ) → table ≡ laid places ballots start size a
-    → put_at table start (get_or places a 0) (get_or ballots a 0) ≡ laid places ballots start size (a + 1)
+pub laid_start : (kept : List Placed) (start size : ℕ) → laid kept start size 0 ≡ replicate size 255
 unfolding laid
-laid_turn places ballots table start size a e = rw (add-one, e)
+laid_start kept start size = refl
 
--- into all of them it is put at its place
-pub put_whole : (table : List ℕ) (p ballot : ℕ) → put_at table 0 p ballot ≡ set table p ballot
-unfolding put_at
-put_whole table p ballot =
-    let e : p - 0 ≡ p = omega arith in rw (le-leb 0 p (omega arith), e)
+pub laid_turn : (kept : List Placed) (start size a : ℕ) → laid kept start size (a + 1) ≡ put_at (laid kept start size a) start (get_or kept a none)
+unfolding laid
+laid_turn kept start size a = rw add-one
 
 -- silence in all tables is silence in a part
 silent_part : (start size all : ℕ) → start + size ≤ all → take size (drop start (replicate {A = ℕ} all 255)) ≡ replicate {A = ℕ} size 255
@@ -105,7 +98,7 @@ silent_part start size all h =
 
 -- a ballot put into a part is one put into all tables
 put_part : (tables : List ℕ) (start size p ballot : ℕ)
-    → put_at (take size (drop start tables)) start p ballot ≡ take size (drop start (set tables p ballot))
+    → put_at (take size (drop start tables)) start (record { place = p; ballot = ballot }) ≡ take size (drop start (set tables p ballot))
 unfolding put_at
 put_part tables start size p ballot =
     ⊎_elim
@@ -129,16 +122,15 @@ module _ (s : List ℕ) where
   -- ---- one record
 
   -- a record's place by its numbers
-  pub place_same : (i : ℕ) → Record s i → place_by (header s).line.n (rounds (header s).line.t) (record_at s i) ≡ place_of s i
+  pub place_same : (i : ℕ) → Record s i → place_by (header s).line (record_at s i) ≡ place_of s i
   unfolding place_by place_of
   place_same i r = rw (round_is s i r, from_is s i r, to_is s i r, bit_is s i r)
 
-  module _ (n last bits marks : ℕ) (line : Lined s n last bits marks) (a i : ℕ) (r : numbers.Record) (q : i ≡ reached s a) (here : Record s i) (is : r ≡ record_at s i) where
-    -- the record at position a judged by its numbers and the places seen
-    pub record_is : (places : List ℕ) → places ≡ loops.seen s a → records_verdict s a ≡ no_cause → record_by n last bits marks r places ≡ record_verdict s a
-    unfolding record_by
-    record_is places e v =
-        rw (is, e, line.n_is, line.last_is, line.bits_are, line.marks_are, judged_by_numbers s i here, place_same i here, or_else_joins, q) (judged_by_seen s a v line.sound)
+  -- the record at position a judged by its numbers and the places seen
+  record_is : (a i : ℕ) → SoundHeader (header s) → i ≡ reached s a → Record s i → records_verdict s a ≡ no_cause
+      → record_by (header s) (record_at s i) (loops.seen s a) ≡ record_verdict s a
+  unfolding record_by
+  record_is a i sound q here v = rw (judged_by_numbers s i here, place_same i here, or_else_joins, q) (judged_by_seen s a v sound)
 
   -- one verdict more
   verdict_pass : (a : ℕ) → records_verdict s a ≡ no_cause → record_verdict s a ≡ no_cause → records_verdict s (a + 1) ≡ no_cause
@@ -157,73 +149,68 @@ module _ (s : List ℕ) where
   -- ---- along the walk
 
   -- what holds at position m: the records before it pass, and all are seen and kept
-  pub record Going (m i : ℕ) (seen places ballots : List ℕ) : Type 0 where
+  pub record Going (m i : ℕ) (seen : List ℕ) (kept : List Placed) : Type 0 where
     pub at : i ≡ reached s m
     pub chained : Chained s m
     pub judged_all : records_verdict s m ≡ no_cause
     pub seen_is : seen ≡ loops.seen s m
-    pub kept : Kept s m places ballots
-    pub places_length : length places ≡ 4096
-    pub ballots_length : length ballots ≡ 4096
+    pub all_kept : Kept s m kept
+    pub kept_length : length kept ≡ 4096
 
   -- at the start
-  pub going_start : (places ballots : List ℕ) → length places ≡ 4096 → length ballots ≡ 4096 → Going 0 (first s) loops.unseen places ballots
+  pub going_start : (kept : List Placed) → length kept ≡ 4096 → Going 0 (first s) loops.unseen kept
   unfolding reached records_verdict loops.seen
-  going_start places ballots p b = record {
+  going_start kept e = record {
     at = refl;
     chained = λ a l. absurd (omega arith);
     judged_all = refl;
     seen_is = refl;
-    kept = λ a l. absurd (omega arith);
-    places_length = p;
-    ballots_length = b;
+    all_kept = λ a l. absurd (omega arith);
+    kept_length = e;
   }
 
-  -- one place and one ballot more are kept
-  kept_turn : (m : ℕ) (places ballots : List ℕ) → m < length places → m < length ballots → Kept s m places ballots
-      → Kept s (m + 1) (set places m (place_of s (reached s m))) (set ballots m (ballot s (reached s m)))
-  kept_turn m places ballots hp hb k a l =
+  -- one record more is kept
+  kept_turn : (m : ℕ) (kept : List Placed) → m < length kept → Kept s m kept → Kept s (m + 1) (set kept m (kept_of s (reached s m)))
+  kept_turn m kept h k a l =
       let le : a ≤ m = omega arith in
       ⊎_elim
-      (λ (e : a ≡ m). (rw (e, get_or-set_same), rw (e, get_or-set_same)))
-      (λ (h : a < m).
-      let ne : a ≢ m = λ e. omega arith in
-      (rw get_or-set_other (k a h).0, rw get_or-set_other (k a h).1))
+      (λ (e : a ≡ m). rw (e, get_or-set_same))
+      (λ (h : a < m). let ne : a ≢ m = λ e. omega arith in rw get_or-set_other (k a h))
       (eq-or-lt_of_le le)
 
-  module _ (n last bits marks : ℕ) (line : Lined s n last bits marks) (m i : ℕ) (seen₀ places₀ ballots₀ : List ℕ) (g : Going m i seen₀ places₀ ballots₀)
-      (here : Record s i) (room : m < records s) (r : numbers.Record) (is : r ≡ record_at s i) where
-    -- its place, its ballot and its next index
-    place_here : place_by n last r ≡ place_of s (reached s m)
-    place_here = rw (is, line.n_is, line.last_is) (place_same i here ∙ ap (place_of s) g.at)
-
-    ballot_here : r.ballot ≡ ballot s (reached s m)
-    ballot_here = rw is (ballot_is s i here ∙ ap (ballot s) g.at)
-
+  module _ (h : Header) (is : h ≡ header s) (sound : SoundHeader h) (most : records s ≤ most_records) (m i : ℕ) (seen₀ : List ℕ) (kept₀ : List Placed)
+      (g : Going m i seen₀ kept₀) (here : Record s i) (room : m < records s) (r : numbers.Record) (q : r ≡ record_at s i) where
     next_here : r.next ≡ reached s (m + 1)
-    next_here = goes_on s m i r.next g.at here (rw is (next_is s i here))
+    next_here = goes_on s m i r.next g.at here (rw q (next_is s i here))
 
     chained_here : Chained s (m + 1)
     chained_here = one_more s m g.chained (rw (← g.at) here)
 
-    module _ (seen₁ places₁ ballots₁ : List ℕ) (v : Verdict) (t : Taken n last bits marks r m seen₀ places₀ ballots₀ seen₁ places₁ ballots₁ v) where
+    -- its place and its ballot
+    place_here : place_by h.line r ≡ place_of s (reached s m)
+    place_here = rw (is, q, ← g.at) (place_same i here)
+
+    ballot_here : r.ballot ≡ ballot s (reached s m)
+    ballot_here = rw (q, ← g.at) (ballot_is s i here)
+
+    module _ (seen₁ : List ℕ) (placed : Placed) (v : Verdict) (t : Taken h r seen₀ seen₁ placed v) where
       verdict_here : record_verdict s m ≡ v
-      verdict_here = sym (record_is n last bits marks line m i r g.at here is seen₀ g.seen_is g.judged_all) ∙ sym t.verdict_is
+      verdict_here =
+          sym (record_is m i (rw is at sound) g.at here g.judged_all)
+          ∙ sym (t.verdict_is ∙ rw (is, q, g.seen_is))
 
       -- one record more that passes
-      pub going_turn : v ≡ no_cause → Going (m + 1) r.next seen₁ places₁ ballots₁
+      pub going_turn : v ≡ no_cause → Going (m + 1) r.next seen₁ (set kept₀ m placed)
       unfolding loops.seen
       going_turn e =
-          let p : m < length places₀ = omega (arith, g.places_length, line.most) in
-          let b : m < length ballots₀ = omega (arith, g.ballots_length, line.most) in
+          let p : m < length kept₀ = omega (arith, g.kept_length, most) in
           record {
             at = next_here;
             chained = chained_here;
             judged_all = verdict_pass m g.judged_all (verdict_here ∙ e);
             seen_is = t.seen_is e ∙ rw (add-one, place_here, g.seen_is);
-            kept = rw (t.places_are e, t.ballots_are e, place_here, ballot_here) (kept_turn m places₀ ballots₀ p b g.kept);
-            places_length = rw (t.places_are e) (simp length-set g.places_length);
-            ballots_length = rw (t.ballots_are e) (simp length-set g.ballots_length);
+            all_kept = rw (t.kept_is e, place_here, ballot_here) (kept_turn m kept₀ p g.all_kept);
+            kept_length = simp length-set g.kept_length;
           }
 
       -- and the first that does not
@@ -263,17 +250,16 @@ module _ (s : List ℕ) where
       rw (lt-ltb (records s) i above) (fated (leaves (record { where_it_does = m; above = rw (← at) above })) ChainLeaves refl))
       (le_or_lt i (records s))
 
-  pub going_told : (m i : ℕ) (seen places ballots : List ℕ) → Going m i seen places ballots → m ≤ records s → records s ≤ 4096
-      → Over s i ⊎ (m ≡ records s) → Told s places ballots (walked_by (records s) i (Ok m))
-  going_told m i seen places ballots g h most last =
-      fate_there m i g.at last (Told s places ballots) (λ f c e. (f, e)) (Ok m)
+  pub going_told : (m i : ℕ) (seen : List ℕ) (kept : List Placed) → Going m i seen kept → m ≤ records s → records s ≤ most_records
+      → Over s i ⊎ (m ≡ records s) → Told s kept (walked_by (records s) i (Ok m))
+  going_told m i seen kept g h most last =
+      fate_there m i g.at last (Told s kept) (λ f c e. (f, e)) (Ok m)
       (λ z. record {
         chain = record { chained = g.chained; zero_there = sym g.at ∙ z };
         most = omega arith;
         judged = g.judged_all;
-        kept = g.kept;
-        places_length = g.places_length;
-        ballots_length = g.ballots_length;
+        all_kept = g.all_kept;
+        kept_length = g.kept_length;
       })
 
   pub hit_told : (m i : ℕ) (c : Cause) → Hit s m i c → Over s i ⊎ (m ≡ records s) → Fated s (walked_by (records s) i (Err c))
@@ -282,22 +268,17 @@ module _ (s : List ℕ) where
       (λ z. (ends m (record { chained = h.chained; zero_there = sym h.at ∙ z }), h.judged))
 
   -- what it tells after a hit it tells of the whole walk
-  pub fated_told : (places ballots : List ℕ) (w : Result ℕ Cause) → Fated s w → Told s places ballots w
-  fated_told places ballots (Ok m) f = absurd f
-  fated_told places ballots (Err c) f = f
+  pub fated_told : (kept : List Placed) (w : Result ℕ Cause) → Fated s w → Told s kept w
+  fated_told kept (Ok m) f = absurd f
+  fated_told kept (Err c) f = f
 
   -- ---- the table
 
   -- what is kept fills the part
-  pub laid_filled : (places ballots : List ℕ) (start size m : ℕ) → start + size ≤ tables_wanted s → Kept s m places ballots
-      → laid places ballots start size m ≡ take size (drop start (filled s m))
+  pub laid_filled : (kept : List Placed) (start size m : ℕ) → start + size ≤ tables_wanted s → Kept s m kept
+      → laid kept start size m ≡ take size (drop start (filled s m))
   unfolding laid filled
-  laid_filled places ballots start size zero h k = sym (silent_part start size (tables_wanted s) h)
-  laid_filled places ballots start size (suc m) h k =
-      let (p, b) = k m (omega arith) in
-      rw (laid_filled places ballots start size m h (λ a l. k a (omega arith)), p, b)
+  laid_filled kept start size zero h k = sym (silent_part start size (tables_wanted s) h)
+  laid_filled kept start size (suc m) h k =
+      rw (laid_filled kept start size m h (λ a l. k a (omega arith)), k m (omega arith))
       (put_part (filled s m) start size (place_of s (reached s m)) (ballot s (reached s m)))
-
-  -- each of its places is in the tables
-  pub kept_inside : (m : ℕ) (places ballots : List ℕ) → Whole s m places ballots → Inside places m (tables_wanted s)
-  kept_inside m places ballots w a l = rw (w.kept a l).0 (place_inside s (reached s a) (judged_place s a (judged s m a w.judged l)))

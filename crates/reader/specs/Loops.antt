@@ -3,7 +3,8 @@ use Rattle.std.specs.Prelude.{ℕ, zero, suc, ◌+◌, ◌-◌, ◌*◌, ◌/◌
 use Rattle.std.specs.declared.result.Result.{Result}
 use Rattle.std.specs.declared.result.Result.TheVariants.{Ok, Err}
 use Rattle.std.specs.Int.Bits.{bit_or}
-use Rattle.line.specs.Line.{from_0, rounds, place}
+use Rattle.line.specs.Line.{from_0, rounds, table_length, place}
+use Rattle.line.specs.declared.Line.{Line}
 use Rattle.line.specs.Width as width
 use Rattle.line.specs.Marks.{marked}
 use Rattle.line.specs.Ballot.{silence}
@@ -20,26 +21,21 @@ use Rattle.layout.specs.Chain.{reached, Ends, Fate}
 use Rattle.judgement.specs.Judgement.{verdict_to_6, records_verdict, chain_verdict}
 use Rattle.judgement.specs.Numbers.{numbers_verdict}
 use Rattle.reader.specs.Reading.{place_of, table_of}
+use Rattle.reader.specs.declared.fill.Placed.{Placed}
 
 -- a header that causes 15 and 2 to 6 let through
 abbrev pub SoundHeader : Header → Type 0
 SoundHeader h = SoundNumber h.line.n h.line.t h.line.upper h.sender h.value h.w h.marks
 
--- a sheet that causes 1, 15 and 2 to 6 let through, with its n, R, number of bits and marks
-pub record Lined (s : List ℕ) (n last bits marks : ℕ) : Type 0 where
-  pub most : records s ≤ most_records
-  pub sound : SoundHeader (header s)
-  pub n_is : n ≡ (header s).line.n
-  pub last_is : last ≡ rounds (header s).line.t
-  pub bits_are : bits ≡ width.bits (header s).w
-  pub marks_are : marks ≡ (header s).marks
+-- nothing kept
+abbrev pub none : Placed
+none = record { place = 0; ballot = 0 }
 
--- such a sheet with its header, and room for all places and ballots
-pub record Walkable (s : List ℕ) (h : Header) (places ballots : List ℕ) : Type 0 where
+-- a sheet that causes 1, 15 and 2 to 6 let through, with its header, and room for all ballots with their places
+pub record Walkable (s : List ℕ) (h : Header) (kept : List Placed) : Type 0 where
   pub judged : verdict_to_6 s ≡ no_cause
   pub header_is : h ≡ header s
-  pub places_length : length places ≡ 4096
-  pub ballots_length : length ballots ≡ 4096
+  pub kept_length : length kept ≡ 4096
 
 -- ---- the places seen: a bit for each place of the largest tables, 32 to a number
 
@@ -63,30 +59,20 @@ looked places p = refused_if (is_seen places p) Duplicate
 
 -- ---- one record
 
--- its place, by its numbers, in tables of n stations and `last` rounds
-unfoldable pub place_by : (n last : ℕ) → Record → ℕ
-place_by n last r = r.bit * (last * n * n) + place n r.round (from_0 r.from) (from_0 r.to)
+-- its place, by its numbers, in the tables of a line
+unfoldable pub place_by : Line → Record → ℕ
+place_by l r = r.bit * table_length l.n l.t + place l.n r.round (from_0 r.from) (from_0 r.to)
 
 -- 11, 12 and 13, by the places seen
-unfoldable pub record_by : (n last bits marks : ℕ) → Record → List ℕ → Verdict
-record_by n last bits marks r places = numbers_verdict n last bits marks r or_else looked places (place_by n last r)
+unfoldable pub record_by : Header → Record → List ℕ → Verdict
+record_by h r places =
+    numbers_verdict h.line.n (rounds h.line.t) (width.bits h.w) h.marks r or_else looked places (place_by h.line r)
 
--- room for a record at position m, in a line and of a number that causes 15, 2 and 3 let through
-pub record Roomy (n last bits m : ℕ) (seen places ballots : List ℕ) : Type 0 where
-  pub few : n ≤ 32
-  pub short : last ≤ 36
-  pub narrow : bits ≤ 8
-  pub position : m < 4096
-  pub seen_length : length seen ≡ 9216
-  pub places_length : length places ≡ 4096
-  pub ballots_length : length ballots ≡ 4096
-
--- a record judged at position m: one that passes is seen, and its place and ballot are kept
-pub record Taken (n last bits marks : ℕ) (r : Record) (m : ℕ) (seen₀ places₀ ballots₀ seen₁ places₁ ballots₁ : List ℕ) (v : Verdict) : Type 0 where
-  pub verdict_is : v ≡ record_by n last bits marks r seen₀
-  pub seen_is : v ≡ no_cause → seen₁ ≡ with_place seen₀ (place_by n last r)
-  pub places_are : v ≡ no_cause → places₁ ≡ set places₀ m (place_by n last r)
-  pub ballots_are : v ≡ no_cause → ballots₁ ≡ set ballots₀ m r.ballot
+-- a record judged: one that passes is seen, and its ballot is kept with its place
+pub record Taken (h : Header) (r : Record) (seen₀ seen₁ : List ℕ) (kept : Placed) (v : Verdict) : Type 0 where
+  pub verdict_is : v ≡ record_by h r seen₀
+  pub seen_is : v ≡ no_cause → seen₁ ≡ with_place seen₀ (place_by h.line r)
+  pub kept_is : v ≡ no_cause → kept ≡ record { place = place_by h.line r; ballot = r.ballot }
 
 -- ---- the walk
 
@@ -101,24 +87,26 @@ pub record Hit (s : List ℕ) (m i : ℕ) (c : Cause) : Type 0 where
   pub chained : (a : ℕ) → a < m → Chain.Record s (reached s a)
   pub judged : records_verdict s m ≡ Err c
 
--- the places and ballots of the first m records of the chain are kept
-abbrev pub Kept : List ℕ → ℕ → List ℕ → List ℕ → Type 0
-Kept s m places ballots =
-    (a : ℕ) → a < m → (get_or places a 0 ≡ place_of s (reached s a)) × (get_or ballots a 0 ≡ ballot s (reached s a))
+-- the record with index i is kept so
+abbrev pub kept_of : List ℕ → ℕ → Placed
+kept_of s i = record { place = place_of s i; ballot = ballot s i }
+
+-- the first m records of the chain are kept
+abbrev pub Kept : List ℕ → ℕ → List Placed → Type 0
+Kept s m kept = (a : ℕ) → a < m → get_or kept a none ≡ kept_of s (reached s a)
 
 -- a chain of m records that pass, all kept
-pub record Whole (s : List ℕ) (m : ℕ) (places ballots : List ℕ) : Type 0 where
+pub record Whole (s : List ℕ) (m : ℕ) (kept : List Placed) : Type 0 where
   pub chain : Ends s m
   pub most : m ≤ most_records
   pub judged : records_verdict s m ≡ no_cause
-  pub kept : Kept s m places ballots
-  pub places_length : length places ≡ 4096
-  pub ballots_length : length ballots ≡ 4096
+  pub all_kept : Kept s m kept
+  pub kept_length : length kept ≡ 4096
 
 -- what the walk tells holds
-abbrev pub Told : (s places ballots : List ℕ) → Result ℕ Cause → Type 0
-Told s places ballots (Ok m) = Whole s m places ballots
-Told s places ballots (Err c) = (f : Fate s) × (chain_verdict s f ≡ Err c)
+abbrev pub Told : List ℕ → List Placed → Result ℕ Cause → Type 0
+Told s kept (Ok m) = Whole s m kept
+Told s kept (Err c) = (f : Fate s) × (chain_verdict s f ≡ Err c)
 
 -- and what it tells after a hit
 abbrev pub Fated : List ℕ → Result ℕ Cause → Type 0
@@ -138,21 +126,11 @@ pub record ReadsPart (s : List ℕ) (start : ℕ) (table₀ table₁ : List ℕ)
   pub answer_is : answer ≡ answered (chain_verdict s fate) (header s)
   pub table_is : table₁ ≡ written (chain_verdict s fate) (take (length table₀) (drop start (table_of s fate))) table₀
 
--- m places and ballots are kept
-pub record Fillable (places ballots : List ℕ) (m : ℕ) : Type 0 where
-  pub position : m ≤ 4096
-  pub places_length : length places ≡ 4096
-  pub ballots_length : length ballots ≡ 4096
-
--- the first m places are in a table of this length
-abbrev pub Inside : List ℕ → ℕ → ℕ → Type 0
-Inside places m size = (a : ℕ) → a < m → get_or places a 0 < size
-
 -- a ballot in its place, if that is in the part
-unfoldable pub put_at : List ℕ → (start place ballot : ℕ) → List ℕ
-put_at table start place ballot = if leb start place then set table (place - start) ballot else table
+unfoldable pub put_at : List ℕ → ℕ → Placed → List ℕ
+put_at table start p = if leb start p.place then set table (p.place - start) p.ballot else table
 
 -- 255 everywhere in a part of this length, then the first m ballots
-unfoldable pub laid : (places ballots : List ℕ) (start size m : ℕ) → List ℕ
-laid places ballots start size zero = replicate size silence
-laid places ballots start size (suc m) = put_at (laid places ballots start size m) start (get_or places m 0) (get_or ballots m 0)
+unfoldable pub laid : List Placed → (start size m : ℕ) → List ℕ
+laid kept start size zero = replicate size silence
+laid kept start size (suc m) = put_at (laid kept start size m) start (get_or kept m none)

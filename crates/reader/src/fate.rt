@@ -28,14 +28,11 @@ pub(crate) fn walk_on(sheet: &[u8], from: usize, position: usize, hit: Cause) ->
 {
     let k = layout::records(sheet);
     let mut i = from;
-    let mut m = position;
-    while m < k {
+    for _ in position..k {
         if !layout::is_record(sheet, i) {
-            return told(k, i, Err(hit));
+            break;
         }
-        let record = layout::record_at(sheet, i);
-        i = record.next;
-        m += 1;
+        i = layout::record_at(sheet, i).next;
     }
     told(k, i, Err(hit))
 }

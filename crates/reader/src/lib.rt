@@ -5,6 +5,7 @@ ghost use Rattle.std.specs.Prelude.{length};
 ghost use Rattle.reader.specs.Reading.{Reads, ReadsBit};
 ghost use Rattle.reader.specs.Loops.{Opened, ReadsPart};
 
+use crate::fill::Placed;
 use layout::Header;
 use refusal::cause::Cause;
 
@@ -20,14 +21,9 @@ fn read_chain(sheet: &[u8], start: usize, table: &mut [u8]) -> Result<Header, Ca
     ensures { ReadsPart sheet.now start table.old table.new result }
 {
     let header = layout::header_of(sheet);
-    let mut places = [0u32; walk::RECORDS];
-    let mut ballots = [0u8; walk::RECORDS];
-    let m = walk::walk(sheet, header, &mut places, &mut ballots)?;
-    if table.len() == layout::tables_len(sheet) {
-        fill::fill(&places, &ballots, m, table);
-    } else {
-        fill::fill_part(&places, &ballots, m, start, table);
-    }
+    let mut kept = [Placed::default(); walk::RECORDS];
+    let m = walk::walk(sheet, header, &mut kept)?;
+    fill::fill(&kept[..m], start, table);
     Ok(header)
 }
 

@@ -1,9 +1,9 @@
 // The walk along the chain, on which each record is judged.
-ghost use Rattle.std.specs.Prelude.{◌≡◌, ◌+◌, ◌-◌, ◌*◌, ◌≤◌, ◌<◌, length};
-ghost use Rattle.line.specs.Line.{place};
-ghost use Rattle.reader.specs.Loops.{Lined, Roomy, Taken, Told, Walkable};
+ghost use Rattle.std.specs.Prelude.{◌≡◌, ◌≤◌, length};
+ghost use Rattle.reader.specs.Loops.{SoundHeader, Taken, Told, Walkable, place_by};
 
 use crate::fate::Walked;
+use crate::fill::Placed;
 use crate::{fate, seen};
 use layout::{Header, Record};
 use line::{Line, width};
@@ -12,95 +12,58 @@ use refusal::cause::Verdict;
 // The most records of a sheet.
 pub(crate) const RECORDS: usize = layout::RECORDS;
 
-// Where the byte for a bit, a round, from a station, to a station stands in the tables of n stations and `last` rounds. What is counted
-// from 1 comes off at the end.
-fn place(n: usize, last: usize, bit: usize, round: usize, from: usize, to: usize) -> usize
-    requires { (n < 256) × (last < 256) × (bit < 256) × ((1 ≤ round) × (round < 256)) × ((1 ≤ from) × (from < 256)) × ((1 ≤ to) × (to < 256)) }
-    ensures { result ≡ bit * (last * n * n) + place n round (from - 1) (to - 1) }
+// Where a record's byte stands in the tables of all bits. What is counted from 1 comes off at the end.
+fn place(line: Line, record: Record) -> usize
+    requires { (1 ≤ «record».round) × (1 ≤ «record».from) × (1 ≤ «record».to) }
+    ensures { result ≡ place_by line «record» }
 {
-    ((bit * last + round) * n + from) * n + to - (n * n + n + 1)
+    let n = usize::from(line.n);
+    let bit = usize::from(record.bit);
+    let round = usize::from(record.round);
+    let from = usize::from(record.from);
+    let to = usize::from(record.to);
+    ((bit * line.rounds() + round) * n + from) * n + to - (n * n + n + 1)
 }
 
-// Causes 11, 12 and 13, of the record at position m of the chain. Its place and its ballot are kept there.
+// Causes 11, 12 and 13, of a chained record. One that passes is kept with its place.
 fn judge(
+    header: Header,
     record: Record,
-    n: u8,
-    last: u8,
-    bits: u8,
-    marks: u32,
-    m: usize,
     seen: &mut [u32; seen::WORDS],
-    places: &mut [u32; RECORDS],
-    ballots: &mut [u8; RECORDS],
+    kept: &mut Placed,
 ) -> Verdict
-    requires { Roomy n last bits m seen.old places.old ballots.old }
-    ensures { Taken n last bits marks «record» m seen.old places.old ballots.old seen.new places.new ballots.new result }
+    requires { SoundHeader header × (length seen.old ≡ 9216) }
+    ensures { Taken header «record» seen.old seen.new kept.new result }
 {
-    judgement::numbers_verdict(n, last, bits, marks, record)?;
-    let p = place(
-        n as usize,
-        last as usize,
-        record.bit as usize,
-        record.round as usize,
-        record.from as usize,
-        record.to as usize,
-    );
-    places[m] = p as u32;
-    ballots[m] = record.ballot;
+    let last = header.line.rounds() as u8;
+    let bits = width::bits(header.w);
+    judgement::numbers_verdict(header.line.n, last, bits, header.marks, record)?;
+    let p = place(header.line, record);
+    *kept = Placed {
+        place: p as u32,
+        ballot: record.ballot,
+    };
     seen::look(seen, p)
 }
 
 // Walks the chain and judges each record as it comes, up to the first hit.
-fn walk_chain(
-    sheet: &[u8],
-    n: u8,
-    last: u8,
-    bits: u8,
-    marks: u32,
-    places: &mut [u32; RECORDS],
-    ballots: &mut [u8; RECORDS],
-) -> Walked
-    requires { Lined sheet.now n last bits marks × (length places.old ≡ 4096) × (length ballots.old ≡ 4096) }
-    ensures { Told sheet.now places.new ballots.new result }
+pub(crate) fn walk(sheet: &[u8], header: Header, kept: &mut [Placed; RECORDS]) -> Walked
+    requires { Walkable sheet.now header kept.old }
+    ensures { Told sheet.now kept.new result }
 {
     let k = layout::records(sheet);
     let mut seen = [0u32; seen::WORDS];
     let mut i = layout::first(sheet);
-    let mut m: usize = 0;
-    while m < k {
+    for m in 0..k {
         if !layout::is_record(sheet, i) {
             return fate::told(k, i, Ok(m));
         }
         let record = layout::record_at(sheet, i);
-        let verdict = judge(record, n, last, bits, marks, m, &mut seen, places, ballots);
+        let verdict = judge(header, record, &mut seen, &mut kept[m]);
         i = record.next;
-        m += 1;
         if let Err(c) = verdict {
-            return fate::walk_on(sheet, i, m, c);
+            return fate::walk_on(sheet, i, m + 1, c);
         }
     }
-    fate::told(k, i, Ok(m))
-}
-
-// The same, by the numbers of the sheet's header.
-pub(crate) fn walk(
-    sheet: &[u8],
-    header: Header,
-    places: &mut [u32; RECORDS],
-    ballots: &mut [u8; RECORDS],
-) -> Walked
-    requires { Walkable sheet.now header places.old ballots.old }
-    ensures { Told sheet.now places.new ballots.new result }
-{
-    let last = header.line.rounds() as u8;
-    let bits = width::bits(header.w);
-    walk_chain(
-        sheet,
-        header.line.n,
-        last,
-        bits,
-        header.marks,
-        places,
-        ballots,
-    )
+    fate::told(k, i, Ok(k))
 }

@@ -2,30 +2,31 @@
 use Rattle.std.specs.Prelude.{if◌then◌else◌}
 use Prim.Native.Nat.{ℕ, zero, suc, ◌+◌, ◌-◌, ◌*◌, ◌≤◌, ◌<◌}
 use mathlib.Core.Path.{◌≡◌, refl, sym, ◌∙◌}
-use mathlib.Core.Bool.{Bool, true, false, not, ◌&&◌}
+use mathlib.Core.Bool.{Bool, true, false, ◌&&◌}
 use mathlib.Core.Logic.{◌≢◌}
-use mathlib.Core.List.{List}
-use native.Mathlib.Nat.{add-zero, add-suc, add_assoc, add-mul, suc-mul, zero-mul, le_refl, mul-le-mul_right}
+use mathlib.Core.List.{List, ◌++◌}
+use native.Mathlib.Nat.{add-zero, add-suc, add_assoc, add-mul, suc-mul, zero-mul, mul-zero, le_refl, mul-le-mul, mul-le-mul_right}
 use native.Mathlib.Decide.{le_ind}
-use native.Mathlib.Numerals.{add-one}
 use native.Mathlib.Omega.{arith}
 use lib.Dec.{leb, eqb}
-use lib.ListN.{length, get_or}
+use lib.ListN.{length, get_or, take, drop, length-append, get_or-append}
 use lib.Pow.{pow_pos}
 use borrow.Author.Tests.{le-leb, lt-leb, eq-eqb, ne_eqb}
 use Rattle.line.specs.Count.{count}
 use Rattle.line.specs.Marks.{marked}
-use Rattle.line.specs.Line.{place}
-use Rattle.line.specs.Width.{tables_length}
-use Rattle.line.specs.Ballot.{silence}
-use Rattle.line.proofs.CountLaws.{count_same, count_none}
+use Rattle.line.specs.Line.{rounds, place}
+use Rattle.line.specs.Width.{bits, tables_length}
+use Rattle.line.proofs.CountLaws.{count_zero, count_same, count_none}
 use Rattle.line.proofs.MarksLaws.{marked_above}
-use Rattle.line.proofs.LineLaws.{next_row, place_from_start, place_from}
+use Rattle.std.proofs.lemmas.List.{get_or-take, get_or-drop, get_or-append-add, length-take, length-drop}
+use Rattle.std.proofs.Math.Nat.{mul-add-div, add-mod_left, min-eq_left}
+use Rattle.line.proofs.LineLaws.{next_row, row_within, place_from_start, place_from}
 use Rattle.layout.specs.declared.Header.{Header}
 use Rattle.selection.specs.Places.{from_at, to_write, how_many}
 use Rattle.selection.specs.Counted.{counted}
 use Rattle.selection.proofs.LeapLaws.{First}
-use Rattle.selection.specs.Loops.{Row, Round, spoken, speaks, More}
+use Rattle.selection.proofs.PlaceLaws.{tables_rounds}
+use Rattle.selection.specs.Loops.{Row, Round, speaks, More}
 
 -- ---- counting on from a place
 
@@ -34,35 +35,24 @@ unfolding count
 count_on a zero q = rw (add-zero a) (omega arith)
 count_on a (suc m) q = rw (add-suc a m, count_on a m q) (omega arith)
 
--- one byte more
-pub spoken_turn : (table : List ℕ) (at j : ℕ) → count (j + 1) (speaks table at) ≡ count j (speaks table at) + spoken (get_or table (at + j) 0)
-unfolding count speaks spoken
-spoken_turn table at j = rw add-one (go (eqb (get_or table (at + j) 0) silence))
-  where
-    go : (b : Bool) → (if not b then 1 else 0) + count j (speaks table at) ≡ count j (speaks table at) + (if b then 0 else 1)
-    go true = omega arith
-    go false = omega arith
-
 -- ---- a row
 
 module _ (n marks : ℕ) (table : List ℕ) (i at : ℕ) (row : Row n i at) where
   -- a marked sender's bytes are written where they are not silence
-  pub marked_speaks : (j : ℕ) → marked marks i ≡ true → j < n → to_write n marks table (at + j) ≡ speaks table at j
+  row_marked : (own : List ℕ) → ((j : ℕ) → j < n → get_or own j 0 ≡ get_or table (at + j) 0) → marked marks i ≡ true
+      → More (to_write n marks table) at (at + n) (count n (speaks own))
   unfolding to_write speaks
-  marked_speaks j e l = rw (row j l, e)
+  row_marked own same e =
+      rw (
+        count_on at n (to_write n marks table),
+        count_same n (λ j. to_write n marks table (at + j)) (speaks own) (λ j k. rw (row j k, e, same j k)),
+      )
 
   -- another's are not
-  pub unmarked_not : (j : ℕ) → marked marks i ≡ false → j < n → to_write n marks table (at + j) ≡ false
+  row_unmarked : marked marks i ≡ false → More (to_write n marks table) at (at + n) 0
   unfolding to_write
-  unmarked_not j e l = rw (row j l, e)
-
-  pub row_marked : (m : ℕ) → marked marks i ≡ true → m ≤ n → More (to_write n marks table) at (at + m) (count m (speaks table at))
-  row_marked m e l =
-      rw (count_on at m (to_write n marks table), count_same m (λ j. to_write n marks table (at + j)) (speaks table at) (λ j k. marked_speaks j e (omega arith)))
-
-  pub row_unmarked : (m : ℕ) → marked marks i ≡ false → m ≤ n → More (to_write n marks table) at (at + m) 0
-  row_unmarked m e l =
-      rw (count_on at m (to_write n marks table), count_same m (λ j. to_write n marks table (at + j)) (λ j. false) (λ j k. unmarked_not j e (omega arith)), count_none)
+  row_unmarked e =
+      rw (count_on at n (to_write n marks table), count_same n (λ j. to_write n marks table (at + j)) (λ j. false) (λ j k. rw (row j k, e)), count_none)
 
 -- ---- rows and rounds, one after the other
 
@@ -74,7 +64,7 @@ module _ (n marks : ℕ) (table : List ℕ) (at : ℕ) (round : Round n at) wher
       (λ l. omega arith)
       (λ k l ih m.
       let e : at + suc k * n ≡ at + k * n + n = omega (arith, suc-mul k n) in
-      let row = row_unmarked n marks table k (at + k * n) (round k (omega arith)) n (none k l (omega arith)) (le_refl n) in
+      let row = row_unmarked n marks table k (at + k * n) (round k (omega arith)) (none k l (omega arith)) in
       rw e (omega (arith, ih (omega arith), row)))
       r h (le_refl r)
 
@@ -85,10 +75,11 @@ module _ (n marks : ℕ) (table : List ℕ) (at : ℕ) (round : Round n at) wher
       rw z at (skip 0 r f.low f.high f.between)
 
   -- a marked station's row, and up to the next marked one
-  pub leap_on : (i k c r : ℕ) → i < n → marked marks i ≡ true → More (to_write n marks table) at (at + i * n) k → c ≡ count n (speaks table (at + i * n))
+  pub leap_on : (i k c r : ℕ) (own : List ℕ) → ((j : ℕ) → j < n → get_or own j 0 ≡ get_or table (at + i * n + j) 0) → i < n → marked marks i ≡ true
+      → More (to_write n marks table) at (at + i * n) k → c ≡ count n (speaks own)
       → First marks n (i + 1) r → More (to_write n marks table) at (at + r * n) (k + c)
-  leap_on i k c r l m before e f =
-      let here = row_marked n marks table i (at + i * n) (round i l) n m (le_refl n) in
+  leap_on i k c r own same l m before e f =
+      let here = row_marked n marks table i (at + i * n) (round i l) own same m in
       let z : at + (i + 1) * n ≡ at + i * n + n = omega (arith, next_row i n) in
       let further = rw z at (skip (i + 1) r f.low f.high f.between) in
       omega (arith, before, here, e, further)
@@ -111,6 +102,82 @@ no_rounds n = rw (zero-mul n, zero-mul n)
 pub round_within : (n r last : ℕ) → r < last → r * n * n + n * n ≤ last * n * n
 round_within n r last h = rw (← next_round n r) (mul-le-mul_right n (mul-le-mul_right n (let g : r + 1 ≤ last = omega arith in g)))
 
+-- ---- one round alone, and a table of rounds
+
+module _ (n marks : ℕ) where
+  module _ (round : List ℕ) where
+    alone : Round n 0
+    alone = rw no_rounds at (round_rows n 0)
+
+    pub round_start : (r : ℕ) → First marks n 0 r → 0 ≡ count (r * n) (to_write n marks round)
+    round_start r f =
+        let z : 0 + r * n ≡ r * n = omega arith in
+        omega (arith, rw z at (leap_first n marks round 0 alone r f), count_zero (to_write n marks round))
+
+    -- the bytes of the station counted i from 0
+    abbrev pub own : ℕ → List ℕ
+    own i = take n (drop (i * n) round)
+
+    pub own_length : (i : ℕ) → i < n → length round ≡ n * n → length (own i) ≡ n
+    own_length i l e = simp (length-take, length-drop) (min-eq_left (omega (arith, row_within i n n l)))
+
+    pub round_on : (i k c r : ℕ) → length round ≡ n * n → i < n → marked marks i ≡ true
+        → k ≡ count (i * n) (to_write n marks round) → c ≡ count (length (own i)) (speaks (own i)) → First marks n (i + 1) r
+        → k + c ≡ count (r * n) (to_write n marks round)
+    round_on i k c r whole l m before e f =
+        let y : 0 + i * n ≡ i * n = omega arith in
+        let z : 0 + r * n ≡ r * n = omega arith in
+        let none = count_zero (to_write n marks round) in
+        let start : More (to_write n marks round) 0 (0 + i * n) k = rw y (omega arith) in
+        let same = λ (j : ℕ) (h : j < n). get_or-take n (drop (i * n) round) j 0 h ∙ get_or-drop (i * n) round j 0 in
+        let on = leap_on n marks round 0 alone i k c r (own i) (rw y same) l m start (rw (own_length i l whole) at e) f in
+        omega (arith, rw z at on)
+
+  -- a round's senders are the same wherever it stands
+  from_later : (j : ℕ) → 0 < n → from_at n (n * n + j) ≡ from_at n j
+  unfolding from_at
+  from_later j some = rw (mul-add-div some n j, add-mod_left)
+
+  -- a round more
+  pub round_more : (round rest : List ℕ) → 0 < n → length round ≡ n * n
+      → count (length (round ++ rest)) (to_write n marks (round ++ rest)) ≡ count (n * n) (to_write n marks round) + count (length rest) (to_write n marks rest)
+  unfolding to_write
+  round_more round rest some e =
+      let both = round ++ rest in
+      let l : length both ≡ n * n + length rest = omega (arith, length-append round rest) in
+      let here = count_same (n * n) (to_write n marks both) (to_write n marks round) (λ j k. rw (get_or-append round rest 0 j (omega arith))) in
+      let there =
+      count_same (length rest) (λ j. to_write n marks both (n * n + j)) (to_write n marks rest)
+      (λ j k. rw (from_later j some, ← e, get_or-append-add round rest j 0)) in
+      rw (l, count_on (n * n) (length rest) (to_write n marks both), here, there)
+
+  -- k bytes of the rounds before the rest are to be written, and the rest is whole rounds
+  pub record Before (table rest : List ℕ) (k : ℕ) : Type 0 where
+    pub all : k + count (length rest) (to_write n marks rest) ≡ count (length table) (to_write n marks table)
+    pub left : ℕ
+    pub whole : length rest ≡ left * (n * n)
+
+  module _ (some : 1 ≤ n) (table rest : List ℕ) (k : ℕ) (g : Before table rest k) where
+    pub before_next : (round after : List ℕ) (r : ℕ) → rest ≡ round ++ after → length round ≡ n * n → r ≡ count (n * n) (to_write n marks round)
+        → Before table after (k + r)
+    before_next round after r e l q =
+        let long : length rest ≡ n * n + length after = rw e (omega (arith, length-append round after)) in
+        let (m, w) = go g.left g.whole long in
+        record { all = omega (arith, rw e at g.all, round_more round after some l); left = m; whole = w }
+      where
+        go : (m : ℕ) → length rest ≡ m * (n * n) → length rest ≡ n * n + length after → (p : ℕ) × (length after ≡ p * (n * n))
+        go zero w h = absurd (omega (arith, zero-mul (n * n), mul-le-mul some some))
+        go (suc p) w h = (p, omega (arith, suc-mul p (n * n)))
+
+    pub before_end : length rest < n * n → k ≡ count (length table) (to_write n marks table)
+    before_end short = go g.left g.whole
+      where
+        go : (m : ℕ) → length rest ≡ m * (n * n) → k ≡ count (length table) (to_write n marks table)
+        go zero w =
+            let none : length rest ≡ 0 = omega (arith, zero-mul (n * n)) in
+            omega (arith, rw none at g.all, count_zero (to_write n marks rest))
+        go (suc p) w = absurd (omega (arith, suc-mul p (n * n)))
+
 -- ---- what the call answers
 
 module _ (h : Header) (table : List ℕ) where
@@ -125,6 +192,17 @@ module _ (h : Header) (table : List ℕ) where
       let l = tables_length h.line.n h.line.t h.w in
       rw (count_same l (to_write h.line.n h.marks table) (λ p. false) (λ p q. nobody e p), count_none l)
       (go (leb h.line.n 32 && eqb (length table) l))
+    where
+      go : (b : Bool) → ◌≡◌ {A = ℕ} 0 (if b then 0 else 0)
+      go true = refl
+      go false = refl
+
+  -- no station
+  pub counted_empty : h.line.n ≡ 0 → 0 ≡ counted h table
+  unfolding counted how_many
+  counted_empty e =
+      let z : tables_length h.line.n h.line.t h.w ≡ 0 = rw e (tables_rounds 0 h.line.t h.w ∙ mul-zero (bits h.w * rounds h.line.t * 0)) in
+      rw (z, count_zero (to_write h.line.n h.marks table)) (go (leb h.line.n 32 && eqb (length table) 0))
     where
       go : (b : Bool) → ◌≡◌ {A = ℕ} 0 (if b then 0 else 0)
       go true = refl

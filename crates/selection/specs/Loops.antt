@@ -14,10 +14,12 @@ Row n i at = (j : ℕ) → j < n → from_at n (at + j) ≡ i
 abbrev pub Round : (n at : ℕ) → Type 0
 Round n at = (i : ℕ) → i < n → Row n i (at + i * n)
 
--- a table of so many rounds
-pub record Whole (n last : ℕ) (table : List ℕ) : Type 0 where
+-- a table of whole rounds, of as many stations as a line can have
+pub record Rounds (n : ℕ) (table : List ℕ) : Type 0 where
+  pub some : 1 ≤ n
   pub few : n ≤ 32
-  pub whole : length table ≡ last * n * n
+  pub how_many : ℕ
+  pub whole : length table ≡ how_many * (n * n)
 
 -- ---- counting
 
@@ -25,9 +27,9 @@ pub record Whole (n last : ℕ) (table : List ℕ) : Type 0 where
 unfoldable pub spoken : ℕ → ℕ
 spoken b = if eqb b silence then 0 else 1
 
--- whether the j-th byte from `at` on is not silence
-unfoldable pub speaks : List ℕ → ℕ → ℕ → Bool
-speaks table at j = not (eqb (get_or table (at + j) 0) silence)
+-- whether the j-th byte is not silence
+unfoldable pub speaks : List ℕ → ℕ → Bool
+speaks row j = not (eqb (get_or row j 0) silence)
 
 -- so many places to be written come between two
 abbrev pub More : (q : ℕ → Bool) → (from to r : ℕ) → Type 0

@@ -1,5 +1,4 @@
 -- `bit_there` meets its contract.
-use borrow.Author.Rules.{rules}
 use Rattle.judgement.specs.Judgement.{bit_there}
 use Rattle.judgement.proofs.bit_there.Goals as goal
 

@@ -1,4 +1,3 @@
-use borrow.Author.Rules.{rules}
 use Rattle.judgement.proofs.unmarked.Goals as goal
 
 pub returns : goal.returns

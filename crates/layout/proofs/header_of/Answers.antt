@@ -1,8 +1,8 @@
 -- `header_of` meets its contract.
+use Rattle.std.proofs.Common.{rules}
 use Rattle.layout.specs.Layout.{header, two, four, byte}
-use borrow.Author.Rules.{rules}
 use Rattle.layout.proofs.header_of.Goals as goal
 
 pub returns : goal.returns
 unfolding header four two byte
-returns c = cc
+returns c = search rules

@@ -1,7 +1,6 @@
 -- `numbers` meets its contract.
 use Rattle.layout.specs.Layout.{byte, two}
 use Rattle.layout.specs.Numbers.{numbers_from}
-use borrow.Author.Rules.{rules}
 use native.Mathlib.Omega.{arith}
 use Prim.Native.Nat.{◌+◌}
 use mathlib.Core.Path.{◌≡◌}

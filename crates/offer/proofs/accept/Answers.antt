@@ -1,8 +1,5 @@
 -- `accept` meets its contract, by what `station::advance` promises.
-<<<<<<< HEAD
 use Rattle.std.proofs.Common.{rules}
-=======
->>>>>>> b70947d5c06e58589d5b810fb6d8193e45ad1bbd
 use mathlib.Core.Path.{sym, ◌∙◌}
 use Rattle.offer.proofs.OfferLaws.{accepted_next, accepted_refused}
 use Rattle.offer.specs.Offers.{accepting_verdict}

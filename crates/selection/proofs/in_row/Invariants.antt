@@ -1,16 +1,8 @@
--- `in_row` meets its contract. The loop's invariant: k of the first j bytes are not silence.
-use borrow.Author.Rules.{rules}
-use native.Mathlib.Omega.{arith}
-use Prim.Native.Nat.{◌-◌, ◌≤◌}
-use mathlib.Core.Path.{◌≡◌, sym}
+-- `in_row`: k of the bytes so far are not silence.
+use Rattle.std.proofs.Common.{◌≡◌, ◌≤◌}
 use Rattle.line.specs.Count.{count}
-use Rattle.line.proofs.CountLaws.{count_zero}
 use Rattle.selection.specs.Loops.{speaks}
-use Rattle.selection.proofs.CountingLaws.{spoken_turn}
 use Rattle.selection.proofs.in_row.Given as goal
 
-abbrev pub invariant-loop-j : goal.invariant-loop-j
-invariant-loop-j l = (l.j ≤ l.n) × (l.k ≡ count l.j (speaks l.table l.at)) × (l.k ≤ l.j)
-
-abbrev pub decreases-loop-j : goal.decreases-loop-j
-decreases-loop-j l = l.n - l.j
+abbrev pub invariant-loop-b : goal.invariant-loop-b
+invariant-loop-b l = (l.k ≡ count l.b-index (speaks l.row)) × (l.k ≤ l.b-index)

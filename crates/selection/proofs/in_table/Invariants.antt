@@ -1,17 +1,9 @@
--- `in_table` meets its contract. The loop's invariant: k bytes of the rounds so far are to be written.
-use borrow.Author.Rules.{rules}
-use native.Mathlib.Omega.{arith}
-use Prim.Native.Nat.{◌-◌, ◌*◌, ◌≤◌}
-use mathlib.Core.Path.{◌≡◌, sym}
-use Rattle.line.specs.Count.{count}
-use Rattle.line.proofs.CountLaws.{count_zero, count_le}
-use Rattle.line.proofs.LineLaws.{product_fits}
-use Rattle.selection.specs.Places.{to_write}
-use Rattle.selection.proofs.CountingLaws.{round_rows, no_rounds, next_round, round_within}
+-- `in_table`: k bytes of the rounds before the rest are to be written.
+use Rattle.std.proofs.Common.{◌≡◌, ◌*◌}
+use Rattle.std.specs.Slice.Iter.{chunks_exact_rest, chunks_exact_size}
+use Rattle.selection.proofs.CountingLaws.{Before}
 use Rattle.selection.proofs.in_table.Given as goal
 
 abbrev pub invariant-loop-round : goal.invariant-loop-round
-invariant-loop-round l = (l.round ≤ l.last) × (l.at ≡ l.round * l.n-2 * l.n-2) × (l.k ≡ count l.at (to_write l.n-2 l.marks l.table))
-
-abbrev pub decreases-loop-round : goal.decreases-loop-round
-decreases-loop-round l = l.last - l.round
+invariant-loop-round l =
+    Before l.n-2 l.marks l.table (chunks_exact_rest l.round-iterator) l.k × (chunks_exact_size l.round-iterator ≡ l.n-2 * l.n-2)

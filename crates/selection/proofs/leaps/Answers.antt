@@ -1,34 +1,35 @@
--- `leaps` meets its contract. The loop's invariant: the places from i on are found.
-use borrow.Author.Rules.{rules}
+-- `leaps` meets its contract.
+use Rattle.std.proofs.Common.{rules}
 use native.Mathlib.Omega.{arith}
-use Prim.Native.Nat.{◌+◌, ◌-◌, ◌≤◌}
-use mathlib.Core.Path.{◌≡◌}
-use lib.ListN.{length, length-set, length-replicate}
-use Rattle.selection.proofs.LeapLaws.{From, from_large, from_last, from_before}
+use mathlib.Core.Path.{◌≡◌, sym, ◌∙◌}
+use Prim.Native.Nat.{◌+◌, ◌-◌}
+use lib.ListN.{get_or, length-set}
+use Rattle.std.specs.Prelude.{if◌then◌else◌}
+use Rattle.line.specs.Marks.{marked}
+use Rattle.line.proofs.CountLaws.{if_true, if_false}
+use Rattle.selection.proofs.LeapLaws.{from_large, from_last, from_before}
 use Rattle.selection.proofs.leaps.Goals as goal
-
-pub returns-then-n-gt32 : goal.returns-then-n-gt32
-returns-then-n-gt32 c =
-    let a = c.args in
-    record { size = length-replicate 33 a.n; each = λ i l. from_large a.marks a.n c.if-n-gt32.true i (omega arith) l }
+use Rattle.selection.proofs.leaps.Goals.{then-is_marked, else-is_marked}
 
 pub loop-i-init : goal.loop-i-init
-loop-i-init c =
-    let a = c.args in
-    (omega arith, omega arith, length-replicate 33 a.n, from_last a.marks a.n (omega arith))
+loop-i-init c = (search rules, from_last c.args.marks c.args.n c.if-n-le-STATIONS.true)
 
 pub loop-i-preserved : goal.loop-i-preserved
 loop-i-preserved c =
-    let l = c.loop-i in
     let a = c.args in
-    let z : l.i - 1 + 1 ≡ l.i = omega arith in (
-      omega arith,
-      l.invariant.1,
-      simp length-set l.invariant.2,
-      from_before a.marks a.n l.invariant.1 (l.i - 1) _ l.to (omega arith) (omega (arith, l.invariant.2)) (rw z l.invariant.3) c.leap.ensures,
+    let l = c.loop-i in
+    let i = l.i - 1 in
+    let z : i + 1 ≡ l.i = omega arith in
+    let v = c.if-is_marked.to in
+    let found : v ≡ (if marked a.marks i then i else get_or l.to (i + 1) 0) =
+    elim c.if-is_marked.branch [
+      | then-is_marked w ↦ w.to-is ∙ sym (if_true _ _ (sym w.if-is_marked.ensures))
+      | else-is_marked w ↦ rw c.from-at.ensures at w.to-is ∙ sym (if_false _ _ (sym w.if-is_marked.ensures))
+    ] in (
+      simp length-set l.invariant.0,
+      rw c.from-at.ensures (from_before a.marks a.n c.if-n-le-STATIONS.true i v l.to (omega arith) (omega (arith, l.invariant.0)) (rw z l.invariant.1) found),
     )
 
-pub returns : goal.returns
-returns c =
-    let l = c.loop-i in
-    record { size = l.invariant.2; each = λ j b. l.invariant.3 j (omega arith) b }
+pub returns-else-n-le-STATIONS : goal.returns-else-n-le-STATIONS
+returns-else-n-le-STATIONS c =
+    record { size = search rules; each = λ i l. from_large c.args.marks c.args.n (omega arith) i (omega arith) l }

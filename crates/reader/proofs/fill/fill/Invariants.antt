@@ -1,15 +1,7 @@
--- `fill::fill` meets its contract. The loop's invariant: the first a ballots are in their places.
-use borrow.Author.Rules.{rules}
-use native.Mathlib.Omega.{arith}
-use Prim.Native.Nat.{◌-◌, ◌≤◌}
-use mathlib.Core.Path.{◌≡◌, ◌∙◌}
-use lib.ListN.{length}
+-- `fill::fill`: the ballots so far are in their places.
+use Rattle.std.proofs.Common.{◌≡◌, length}
 use Rattle.reader.specs.Loops.{laid}
-use Rattle.reader.proofs.WalkLaws.{silent_length, silent_still, laid_length, laid_turn, put_whole}
 use Rattle.reader.proofs.fill.fill.Given as goal
 
-abbrev pub invariant-loop-a : goal.invariant-loop-a
-invariant-loop-a l = (l.a ≤ l.m) × (l.table ≡ laid l.places l.ballots 0 (length l.initial.table) l.a)
-
-abbrev pub decreases-loop-a : goal.decreases-loop-a
-decreases-loop-a l = l.m - l.a
+abbrev pub invariant-loop-placed : goal.invariant-loop-placed
+invariant-loop-placed l = l.table ≡ laid l.kept l.start (length l.fn.table) l.placed-index

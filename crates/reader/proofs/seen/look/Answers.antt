@@ -1,5 +1,4 @@
 -- `seen::look` meets its contract: the place was seen, or is seen from now on.
-use borrow.Author.Rules.{rules}
 use native.Mathlib.Omega.{arith}
 use Prim.Native.Nat.{◌<◌}
 use mathlib.Core.Path.{refl, sym, ◌∙◌}
