@@ -1,6 +1,5 @@
 -- `bit_beside` meets its contract, case by case of the verdict.
 use Rattle.recipe.proofs.BitLaws.{alike, accepted, refused}
-use borrow.Author.Rules.{rules}
 use Rattle.recipe.proofs.bit_beside.Goals as goal
 
 pub add-requires : goal.add-requires

@@ -1,6 +1,5 @@
 -- `judge` meets its contract.
 use Rattle.recipe.specs.Promise.{number_rehearsal_verdict}
-use borrow.Author.Rules.{rules}
 use Rattle.recipe.proofs.judge.Goals as goal
 
 pub returns : goal.returns

@@ -1,6 +1,5 @@
 -- `rehearse` meets its contract, case by case of the verdict.
 use Rattle.recipe.proofs.PromiseLaws.{playable, accepted, refused}
-use borrow.Author.Rules.{rules}
 use mathlib.Core.Path.{sym, ◌∙◌}
 use Rattle.recipe.proofs.rehearse.Goals as goal
 
