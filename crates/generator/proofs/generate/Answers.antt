@@ -1,5 +1,4 @@
 -- `generate` meets its contract, case by case of the verdict.
-use borrow.Author.Rules.{rules}
 use Rattle.generator.proofs.PromiseLaws.{generates_accepted, generates_refused}
 use Rattle.generator.proofs.generate.Goals as goal
 
