@@ -3,102 +3,60 @@ use Rattle.std.specs.Prelude.{if◌then◌else◌}
 use Prim.Native.Nat.{ℕ, zero, suc, ◌+◌, ◌-◌, ◌*◌, ◌/◌, ◌%◌, ◌≤◌, ◌<◌}
 use mathlib.Core.Path.{◌≡◌, refl, sym, ap, ◌∙◌}
 use mathlib.Core.Bool.{Bool, true, false}
-use mathlib.Core.Logic.{⊎_elim}
+use mathlib.Core.Logic.{◌⊎◌, inl, inr}
 use mathlib.Core.List.{List}
 use native.Mathlib.Omega.{arith}
 use native.Mathlib.Numerals.{add-one}
-use native.Mathlib.Nat.{add-zero, div-add-mod', suc-mod, le_refl, mul-le-mul_right, suc-mul}
-use lib.Arith.{digits_div, digits_mod}
-use lib.ListN.{length, get_or}
+use native.Mathlib.Nat.{add-zero, div-add-mod', le_refl, mul-le-mul_right, zero-mul}
+use lib.Arith.{digits_div}
+use lib.ListN.{length, get_or, set, take, drop, replicate, length-drop, get_or-replicate}
+use lib.Seq.{length-take-le}
 use Rattle.line.specs.Count.{count}
 use Rattle.line.specs.Marks.{marked}
 use Rattle.line.specs.Ballot.{silence}
-use Rattle.line.specs.Writing.{over}
+use Rattle.line.specs.Writing.{Each}
 use Rattle.line.proofs.CountLaws.{le_or_lt, count_same, count_none}
-use Rattle.line.proofs.WritingLaws.{over_length, over_before, over_at, over_same}
+use Rattle.line.proofs.LineLaws.{next_row}
+use Rattle.line.proofs.WritingLaws.{each_turn, spliced, spliced_length, spliced_before, spliced_there}
 use Rattle.selection.specs.Places.{from_at}
 use Rattle.selection.proofs.CountingLaws.{count_on}
 use Rattle.xorshift.specs.State.{next, state_after}
 use Rattle.xorshift.proofs.StateLaws.{runs_on}
 use Rattle.generator.specs.Tables.{ballot, has_step, steps_before, byte_at}
-use Rattle.generator.specs.Loops.{drawn_byte, silent_byte, row_byte, Rows, Drawn}
+use Rattle.generator.specs.Loops.{drawn_byte, row_byte, Drawn}
 
--- ---- a byte of a row
+-- ---- a row
 
-pub drawn_is : (state j s : ℕ) → s ≡ state_after (suc j) state → ballot s ≡ drawn_byte state j
-unfolding drawn_byte
-drawn_is state j s e = ap ballot e
+-- a step more, and the byte after it
+pub drawn_turn : (state m s r v : ℕ) (row : List ℕ) → s ≡ state_after m state → r ≡ next s → v ≡ ballot r → m < length row → Each m row (drawn_byte state)
+    → (r ≡ state_after (m + 1) state) × Each (m + 1) (set row m v) (drawn_byte state)
+unfolding state_after drawn_byte
+drawn_turn state m s r v row e q w h each =
+    let one : r ≡ state_after (suc m) state = q ∙ ap next e in
+    (one ∙ sym (ap (λ (k : ℕ). state_after k state) (add-one m)), each_turn row (drawn_byte state) m v h each (w ∙ ap ballot one))
 
-pub silent_is : (j : ℕ) → 255 ≡ silent_byte j
-unfolding silent_byte
-silent_is j = refl
+-- by whether its sender is marked
+module _ (bad : Bool) (n s : ℕ) (row : List ℕ) where
+  pub row_is_drawn : (r : ℕ) → bad ≡ true → (r ≡ state_after n s) × Each n row (drawn_byte s)
+      → (r ≡ (if bad then state_after n s else s)) × Each n row (row_byte bad s)
+  unfolding Each row_byte
+  row_is_drawn r e (q, each) = rw e (q, each)
 
-row_drawn : (state j : ℕ) → drawn_byte state j ≡ row_byte true state j
-unfolding row_byte
-row_drawn state j = refl
-
-row_silent : (state j : ℕ) → silent_byte j ≡ row_byte false state j
-unfolding row_byte
-row_silent state j = refl
-
--- a row by whether its sender is marked
-module _ (bad : Bool) (table table₁ : List ℕ) (at n s r : ℕ) where
-  pub row_is_drawn : bad ≡ true → (r ≡ state_after n s) × (table₁ ≡ over table at n (drawn_byte s))
-      → (r ≡ (if bad then state_after n s else s)) × (table₁ ≡ over table at n (row_byte bad s))
-  row_is_drawn e (q, w) = rw e (q, w ∙ over_same table at (drawn_byte s) (row_byte true s) n (λ j _. row_drawn s j))
-
-  pub row_is_silent : bad ≡ false → r ≡ s → table₁ ≡ over table at n silent_byte
-      → (r ≡ (if bad then state_after n s else s)) × (table₁ ≡ over table at n (row_byte bad s))
-  row_is_silent e q w = rw e (q, w ∙ over_same table at silent_byte (row_byte false s) n (λ j _. row_silent s j))
-
--- a step more
-pub step_more : (m state : ℕ) → state_after (m + 1) state ≡ state_after (suc m) state
-step_more m state = ap (λ (k : ℕ). state_after k state) (add-one m)
-
-pub step_turn : (m state s r : ℕ) → s ≡ state_after m state → r ≡ next s → r ≡ state_after (suc m) state
-unfolding state_after
-step_turn m state s r e q = q ∙ ap next e
+  pub row_is_silent : bad ≡ false → row ≡ replicate n silence → (s ≡ (if bad then state_after n s else s)) × Each n row (row_byte bad s)
+  unfolding Each row_byte
+  row_is_silent e q = rw (e, q) (refl, λ j h. get_or-replicate n j silence 0 h)
 
 -- ---- whole rows
 
--- what is a multiple of n and less than another leaves room for n
-module _ (n at size : ℕ) (rows : Rows n size) (start : at % n ≡ 0) where
-  at_rows : at / n * n ≡ at
-  at_rows = let d = div-add-mod' at n in omega (arith, d, start)
-
-  pub row_fits : at < size → at + n ≤ size
-  row_fits l = ⊎_elim (λ (q : size / n ≤ at / n). absurd (none q)) some (le_or_lt (size / n) (at / n))
-    where
-      all : size / n * n ≡ size
-      all = let d = div-add-mod' size n in omega (arith, d, rows.whole)
-
-      none : size / n ≤ at / n → ⊥
-      none q = omega (arith, mul-le-mul_right n q, at_rows, all)
-
-      some : at / n < size / n → at + n ≤ size
-      some q = omega (arith, mul-le-mul_right n q, suc-mul (at / n) n, at_rows, all)
+-- row k of a table, which starts at k * n
+module _ (n size k : ℕ) (more : k < size / n) where
+  row_fits : k * n + n ≤ size
+  row_fits = omega (arith, next_row k n, mul-le-mul_right n more, div-add-mod' size n)
 
   -- the sender of each of its bytes
-  pub row_from : (j : ℕ) → j < n → from_at n (at + j) ≡ at / n % n
+  row_from : (j : ℕ) → j < n → from_at n (k * n + j) ≡ k % n
   unfolding from_at
-  row_from j h =
-      let e : at + j ≡ at / n * n + j = omega (arith, at_rows) in
-      rw e (ap (λ (k : ℕ). k % n) (digits_div (at / n) h))
-
-  next_start : (at + n) / n ≡ at / n + 1
-  next_start =
-      let e : at + n ≡ (at / n + 1) * n + 0 = omega (arith, at_rows, suc-mul (at / n) n, ap (λ (k : ℕ). k * n) (add-one (at / n))) in
-      ap (λ (k : ℕ). k / n) e ∙ digits_div (at / n + 1) rows.some
-
-  pub start_next : (at + n) % n ≡ 0
-  start_next =
-      let e : at + n ≡ (at / n + 1) * n + 0 = omega (arith, at_rows, suc-mul (at / n) n, ap (λ (k : ℕ). k * n) (add-one (at / n))) in
-      ap (λ (k : ℕ). k % n) e ∙ digits_mod (at / n + 1) rows.some
-
-  -- and the next row's
-  pub from_next : (from next : ℕ) → from ≡ at / n % n → next ≡ (from + 1) % n → next ≡ (at + n) / n % n
-  from_next from next e q =
-      q ∙ rw (e, next_start, add-one (at / n), add-one (at / n % n)) (sym (suc-mod (at / n) n))
+  row_from j h = ap (λ (i : ℕ). i % n) (digits_div k h)
 
 -- ---- the steps of a row
 
@@ -135,7 +93,7 @@ module _ (n marks at : ℕ) (bad : Bool) (same : (j : ℕ) → j < n → has_ste
 
   -- its bytes
   pub row_bytes : (state s j : ℕ) → s ≡ state_after (steps_before n marks at) state → j < n → row_byte bad s j ≡ byte_at n marks state (at + j)
-  unfolding row_byte byte_at drawn_byte silent_byte
+  unfolding row_byte byte_at drawn_byte
   row_bytes state s j e l = rw (same j l) (go bad refl)
     where
       go : (b : Bool) → bad ≡ b
@@ -147,32 +105,43 @@ module _ (n marks at : ℕ) (bad : Bool) (same : (j : ℕ) → j < n → has_ste
 
 -- ---- one row more
 
-module _ (n marks state at : ℕ) (table₀ : List ℕ) (rows : Rows n (length table₀)) (start : at % n ≡ 0) (room : at < length table₀) where
-  has_steps : (j : ℕ) → j < n → has_step n marks (at + j) ≡ marked marks (at / n % n)
+module _ (n marks state k : ℕ) (table₀ : List ℕ) (more : k < length table₀ / n) where
+  has_steps : (j : ℕ) → j < n → has_step n marks (k * n + j) ≡ marked marks (k % n)
   unfolding has_step
-  has_steps j h = ap (marked marks) (row_from n at (length table₀) rows start j h)
+  has_steps j h = ap (marked marks) (row_from n (length table₀) k more j h)
 
-  pub drawn_more : (table table₁ : List ℕ) (s s₁ from : ℕ) (bad : Bool) → from ≡ at / n % n → bad ≡ marked marks from → Drawn n marks state at table₀ table s
-      → s₁ ≡ (if bad then state_after n s else s) → table₁ ≡ over table at n (row_byte bad s) → Drawn n marks state (at + n) table₀ table₁ s₁
-  drawn_more table table₁ s s₁ from bad f b P e q =
-      let same : (j : ℕ) → j < n → has_step n marks (at + j) ≡ bad = λ j h. has_steps j h ∙ sym (b ∙ ap (marked marks) f) in
-      let inside : at + n ≤ length table = omega (arith, P.size, row_fits n at (length table₀) rows start room) in
-      record {
-        size = ap length q ∙ over_length table at (row_byte bad s) n ∙ P.size;
-        bytes_are = λ k l. rw q (⊎_elim
-            (λ (h : at ≤ k). later k l same inside h)
-            (λ (h : k < at). over_before table at (row_byte bad s) n k h ∙ P.bytes_are k h)
-            (le_or_lt at k));
-        state_is = e ∙ row_state n marks at bad same state s P.state_is;
-      }
-    where
-      later : (k : ℕ) → k < at + n → ((j : ℕ) → j < n → has_step n marks (at + j) ≡ bad) → at + n ≤ length table → at ≤ k
-          → get_or (over table at n (row_byte bad s)) k 0 ≡ byte_at n marks state k
-      later k l same inside h =
-          let z : at + (k - at) ≡ k = omega arith in
-          rw z at (over_at table at (row_byte bad s) n (k - at) (omega arith) inside ∙ row_bytes n marks at bad same state s (k - at) P.state_is (omega arith))
+  module _ (table row : List ℕ) (s s₁ : ℕ) (bad : Bool) (b : bad ≡ marked marks (k % n)) (P : Drawn n marks state (k * n) table₀ table s) where
+    room : k * n + n ≤ length table
+    room = omega (arith, P.size, row_fits n (length table₀) k more)
+
+    same : (j : ℕ) → j < n → has_step n marks (k * n + j) ≡ bad
+    same j h = has_steps j h ∙ sym b
+
+    its_bytes : length row ≡ n → Each n row (row_byte bad s) → (i : ℕ) → i < k * n + n → (k * n ≤ i) ⊎ (i < k * n) → get_or (spliced table row (k * n) n) i 0 ≡ byte_at n marks state i
+    unfolding Each
+    its_bytes long each i l (inl h) =
+        let j : k * n + (i - k * n) ≡ i = omega arith in
+        let u : i - k * n < n = omega arith in
+        rw j at (spliced_there table row (k * n) n room long (i - k * n) u ∙ each (i - k * n) u ∙ row_bytes n marks (k * n) bad same state s (i - k * n) P.state_is u)
+    its_bytes long each i l (inr h) = spliced_before table row (k * n) n room long i h ∙ P.bytes_are i h
+
+    row_more : length row ≡ n → (s₁ ≡ (if bad then state_after n s else s)) × Each n row (row_byte bad s) → Drawn n marks state ((k + 1) * n) table₀ (spliced table row (k * n) n) s₁
+    row_more long (e, each) =
+        rw (next_row k n) (record {
+          size = spliced_length table row (k * n) n room long ∙ P.size;
+          bytes_are = λ i l. its_bytes long each i l (le_or_lt (k * n) i);
+          state_is = e ∙ row_state n marks (k * n) bad same state s P.state_is;
+        })
+
+    -- as the code lends the row: m bytes from `at` on
+    pub drawn_more : (at m : ℕ) → at ≡ k * n → m ≡ n → length row ≡ length (take m (drop at table))
+        → (s₁ ≡ (if bad then state_after (length (take m (drop at table))) s else s)) × Each (length (take m (drop at table))) row (row_byte bad s)
+        → Drawn n marks state ((k + 1) * n) table₀ (spliced table row at m) s₁
+    drawn_more at m a z size e =
+        let lent : length (take n (drop (k * n) table)) ≡ n = length-take-le n (drop (k * n) table) (rw length-drop (omega (arith, room))) in
+        rw (a, z) (row_more (rw (a, z, lent) at size) (rw (a, z, lent) at e))
 
 -- none yet
-pub drawn_none : (n marks state : ℕ) (table : List ℕ) → Drawn n marks state 0 table table state
+pub drawn_none : (n marks state : ℕ) (table : List ℕ) → Drawn n marks state (0 * n) table table state
 unfolding steps_before count state_after
-drawn_none n marks state table = record { size = refl; bytes_are = λ k l. absurd (omega arith); state_is = refl }
+drawn_none n marks state table = rw (zero-mul n) (record { size = refl; bytes_are = λ k l. absurd (omega arith); state_is = refl })

@@ -79,13 +79,10 @@ module _ (n size : ℕ) where
   unfolding whole_rows
   rows_whole some e = rw (lt-ltb 0 n some, eq-eqb (size % n) 0 e)
 
-  pub rows_none : n ≡ 0 → whole_rows n size ≡ false
+  pub rows_none : (n ≡ 0) ⊎ ((n ≡ 0 → ⊥) × (size % n ≡ 0 → ⊥)) → whole_rows n size ≡ false
   unfolding whole_rows
-  rows_none e = rw e
-
-  pub rows_broken : 1 ≤ n → (size % n ≡ 0 → ⊥) → whole_rows n size ≡ false
-  unfolding whole_rows
-  rows_broken some e = rw (lt-ltb 0 n some, ne_eqb (size % n) 0 e)
+  rows_none (inl e) = rw e
+  rows_none (inr (some, e)) = rw (lt-ltb 0 n (omega arith), ne_eqb (size % n) 0 e)
 
 -- ---- the tables of all bits
 

@@ -8,12 +8,9 @@ use Rattle.generator.specs.Tables.{ballot, steps_before, byte_at}
 unfoldable pub drawn_byte : ℕ → ℕ → ℕ
 drawn_byte state j = ballot (state_after (suc j) state)
 
--- of another's
-unfoldable pub silent_byte : ℕ → ℕ
-silent_byte j = silence
-
+-- of a sender's row, which may be marked
 unfoldable pub row_byte : Bool → ℕ → ℕ → ℕ
-row_byte bad state j = if bad then drawn_byte state j else silent_byte j
+row_byte bad state j = if bad then drawn_byte state j else silence
 
 -- whole rows of n bytes
 pub record Rows (n size : ℕ) : Type 0 where

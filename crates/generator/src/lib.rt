@@ -15,10 +15,7 @@ mod rows;
 pub fn fill(n: u8, marks: u32, state: u32, table: &mut [u8]) -> u32
     ensures { Fills n marks state table.old table.new result }
 {
-    if n == 0 {
-        return state;
-    }
-    if table.len() % (n as usize) != 0 {
+    if n == 0 || table.len() % (n as usize) != 0 {
         return state;
     }
     rows::fill(n, marks, state, table)

@@ -62,13 +62,12 @@ module _ (b : ℕ) (R : Run) (log₀ log₁ part₀ part₁ below : List ℕ) (a
   as_outcomes = P.judged.answer_is ∙ verdict_within R log₀ part₀ below size
 
   -- accepted: the part has the outcomes of as many stations
-  pub alike : answer ≡ no_cause → Alike R.n part₁ below
+  pub alike : answer ≡ no_cause → Alike part₁ below
   alike a =
-      let (ready, whole) = playable R log₀ below (sym as_outcomes ∙ a) in
+      let whole = (playable R log₀ below (sym as_outcomes ∙ a)).1 in
       record {
-        size = whole;
-        few = ready.header.most;
-        part_size = ap length P.outcomes_are ∙ rw a (outcome_bytes R).size;
+        whole = omega (arith, whole);
+        part_size = ap length P.outcomes_are ∙ rw a ((outcome_bytes R).size ∙ sym whole);
       }
 
   pub accepted : (outcomes₁ : List ℕ) → answer ≡ no_cause → outcomes₁ ≡ added b part₁ below → RehearsedBit b R log₀ log₁ below outcomes₁ answer

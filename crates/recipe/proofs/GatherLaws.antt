@@ -2,94 +2,91 @@
 use Prim.Native.Nat.{ℕ, zero, suc, ◌+◌, ◌-◌, ◌*◌, ◌/◌, ◌%◌, ◌^◌, ◌≤◌, ◌<◌}
 use mathlib.Core.Path.{◌≡◌, refl, sym, ap, ◌∙◌}
 use mathlib.Core.Logic.{◌≢◌}
-use mathlib.Core.List.{List}
+use mathlib.Core.List.{List, [], ◌∷◌}
 use native.Mathlib.Omega.{arith}
-use native.Mathlib.Nat.{add-zero, mul_assoc, mul-le-mul, pow-le-pow_right, mod-eq_of_lt}
-use lib.ListN.{length, get_or}
-use lib.Seq.{ext_get_or, set-get_or}
+use native.Mathlib.Nat.{add-zero, mul_assoc, mul-zero, mul-suc}
+use lib.ListN.{length, get_or, take, drop, length-drop}
+use lib.Seq.{ext_get_or}
 use lib.Pow.{pow-add}
+use lib.Dec.{ltb}
+use mathlib.Core.Bool.{Bool, true, false}
+use Rattle.std.specs.Prelude.{if◌then◌else◌, nat_lt, min, max}
+use Rattle.std.proofs.lemmas.Bool.Decides.{nat_tests}
+use borrow.Author.Tests.{ltb-false}
 use borrow.Author.Tests.{eq-eqb, ne_eqb}
 use Rattle.line.specs.Line.{outcome_size}
-use Rattle.line.specs.Writing.{over}
-use Rattle.line.proofs.WritingLaws.{over_length, over_after, over_on, front_at}
+use Rattle.line.specs.Writing.{over, Each}
+use Rattle.line.proofs.WritingLaws.{over_length, over_after, over_on, front_at, spliced, over_part}
 use Rattle.broadcast.specs.Station.{at}
 use Rattle.broadcast.specs.Bytes.{pick}
 use Rattle.broadcast.proofs.BytesLaws.{length_tabulate, get_d_tabulate}
 use Rattle.number.specs.Digits.{smaller, either, larger}
+use Rattle.recipe.specs.Loops.{Alike}
+use Rattle.std.specs.Simd.{first_chunks}
+use Rattle.std.proofs.Common.{lit<}
+use lib.Seq.{get_or-take, get_or-drop, drop-drop, length-take-le}
 use Rattle.recipe.specs.Gathered.{with_bit, joined, added_byte, added}
-use Rattle.recipe.specs.Loops.{put_four}
-
--- ---- four bytes
-
-put_over : (l : List ℕ) (a : ℕ) (F : ℕ → ℕ) → put_four l a (F 0) (F 1) (F 2) (F 3) ≡ over l a 4 F
-unfolding put_four over
-put_over l a F = rw (add-zero a)
-
--- what stands there already
-over_there : (l : List ℕ) (a m : ℕ) (F : ℕ → ℕ) → a + m ≤ length l → ((d : ℕ) → d < m → F d ≡ get_or l (a + d) 0) → over l a m F ≡ l
-unfolding over
-over_there l a zero F h same = refl
-over_there l a (suc m) F h same =
-    rw (over_there l a m F (omega arith) (λ d u. same d (omega arith)), same m (omega arith)) (set-get_or l (a + m) 0)
 
 -- ---- a number with one bit more
 
--- a byte has no room for a bit from 8 on
-pub no_room : (b d m : ℕ) → 8 ≤ b → m < 256 → with_bit b d m ≡ m
+-- the bit is shifted in a byte, and leaves one of a bit from 8 on
+pub bit_in_byte : (b d m s : ℕ) → m < 256 → s ≡ (if nat_lt b 8 then d * 2 ^ b % 256 else 0) → (m + s) % 256 ≡ with_bit b d m
 unfolding with_bit
-no_room b d m h l =
-    let e : 2 ^ b ≡ 2 ^ (b - 8) * 256 = ap (λ (k : ℕ). 2 ^ k) (omega arith) ∙ pow-add 2 (b - 8) 8 in
-    let q : d * 2 ^ b ≡ d * 2 ^ (b - 8) * 256 = rw (e, mul_assoc) in
-    rw q (omega arith)
+bit_in_byte b d m s l e = go (ltb b 8) refl
+  where
+    go : (c : Bool) → ltb b 8 ≡ c → (m + s) % 256 ≡ (m + d * 2 ^ b) % 256
+    go true q = rw (e, q) (omega arith)
+    go false q =
+        let h = ltb-false b 8 q in
+        let p : 2 ^ b ≡ 2 ^ (b - 8) * 256 = ap (λ (k : ℕ). 2 ^ k) (omega arith) ∙ pow-add 2 (b - 8) 8 in
+        let r : d * 2 ^ b ≡ d * 2 ^ (b - 8) * 256 = rw (p, mul_assoc) in
+        rw (e, q, r) (omega arith)
 
--- below it is shifted in sixteen bits
-pub shifted : (b d : ℕ) → b < 8 → d < 256 → d * 2 ^ b ≤ 32640
-shifted b d h k =
-    let p : 2 ^ b ≤ 128 = pow-le-pow_right {n = 2} (omega arith) {i = b} {j = 7} (omega arith) in
-    mul-le-mul {n₂ = 255} {m₂ = 128} (omega arith) p
+-- ---- the smaller and the larger of two
 
-pub shifted_whole : (b d : ℕ) → b < 8 → d < 256 → d * 2 ^ b % 65536 ≡ d * 2 ^ b
-shifted_whole b d h k = mod-eq_of_lt (omega (arith, shifted b d h k))
+smaller_is : (a b : ℕ) → min a b ≡ smaller a b
+unfolding smaller
+smaller_is a b = grind (arith, nat_tests)
 
-pub shifted_fits : (b d m : ℕ) → b < 8 → d < 256 → m < 256 → m + d * 2 ^ b % 65536 < 65536
-shifted_fits b d m h k l = rw (shifted_whole b d h k) (omega (arith, shifted b d h k))
+larger_is : (a b : ℕ) → max a b ≡ larger a b
+unfolding larger
+larger_is a b = grind (arith, nat_tests)
 
 -- ---- one station
 
-module _ (b : ℕ) (part below : List ℕ) (i : ℕ) where
-  joined_bad : get_or below (outcome_size * i + 1) 0 ≡ 255 → (d : ℕ) → joined b part below i d ≡ get_or below (outcome_size * i + d) 0
-  unfolding joined at
-  joined_bad e d = rw (eq-eqb _ _ e)
+module _ (b : ℕ) (part below : List ℕ) where
+  pub station_left : get_or below 1 0 ≡ 255 → Each 4 below (joined b part below 0)
+  unfolding Each joined at
+  station_left e d h = let z : outcome_size * 0 + d ≡ d = omega arith in rw (eq-eqb _ _ e, z)
 
-  module _ (good : get_or below (outcome_size * i + 1) 0 ≢ 255) where
-    joined_value : joined b part below i 0 ≡ with_bit b (get_or part (outcome_size * i) 0) (get_or below (outcome_size * i) 0)
-    unfolding joined pick at
-    joined_value = rw (ne_eqb _ _ good)
+  pub station_joined : get_or below 1 0 ≢ 255 → (value grade flag garbled : ℕ)
+      → value ≡ with_bit b (get_or part 0 0) (get_or below 0 0) → grade ≡ min (get_or part 1 0) (get_or below 1 0)
+      → flag ≡ either (get_or part 2 0) (get_or below 2 0) → garbled ≡ max (get_or part 3 0) (get_or below 3 0)
+      → Each 4 (value ∷ grade ∷ flag ∷ garbled ∷ []) (joined b part below 0)
+  unfolding Each joined pick at
+  station_joined good value grade flag garbled v g f c zero h = rw (ne_eqb _ _ good) v
+  station_joined good value grade flag garbled v g f c (suc zero) h = rw (ne_eqb _ _ good) (g ∙ smaller_is _ _)
+  station_joined good value grade flag garbled v g f c (suc (suc zero)) h = rw (ne_eqb _ _ good) f
+  station_joined good value grade flag garbled v g f c (suc (suc (suc zero))) h = rw (ne_eqb _ _ good) (c ∙ larger_is _ _)
+  station_joined good value grade flag garbled v g f c (suc (suc (suc (suc d)))) h = absurd (omega arith)
 
-    joined_grade : joined b part below i 1 ≡ smaller (get_or part (outcome_size * i + 1) 0) (get_or below (outcome_size * i + 1) 0)
-    unfolding joined pick at
-    joined_grade = rw (ne_eqb _ _ good)
+-- the four bytes of a station alone
+four_at : (i : ℕ) (l : List ℕ) (d : ℕ) → d < 4 → get_or (take 4 (drop (outcome_size * i) l)) d 0 ≡ get_or l (outcome_size * i + d) 0
+four_at i l d h = get_or-take 4 (drop (outcome_size * i) l) d 0 h ∙ get_or-drop (outcome_size * i) l d 0
 
-    joined_flag : joined b part below i 2 ≡ either (get_or part (outcome_size * i + 2) 0) (get_or below (outcome_size * i + 2) 0)
-    unfolding joined pick at
-    joined_flag = rw (ne_eqb _ _ good)
+joined_alone : (b : ℕ) (part below : List ℕ) (i d : ℕ) → d < 4
+    → joined b (take 4 (drop (outcome_size * i) part)) (take 4 (drop (outcome_size * i) below)) 0 d ≡ joined b part below i d
+unfolding joined at
+joined_alone b part below i d h =
+    let z : outcome_size * 0 + d ≡ d = omega arith in
+    rw (z, four_at i part 0 (lit< tt), four_at i part 1 (lit< tt), four_at i part 2 (lit< tt), four_at i part 3 (lit< tt), four_at i below 0 (lit< tt), four_at i below 1 (lit< tt), four_at i below 2 (lit< tt), four_at i below 3 (lit< tt), four_at i below d h, add-zero (outcome_size * i))
 
-    joined_count : joined b part below i 3 ≡ larger (get_or part (outcome_size * i + 3) 0) (get_or below (outcome_size * i + 3) 0)
-    unfolding joined pick at
-    joined_count = rw (ne_eqb _ _ good)
-
-    pub station_joined : put_four below (outcome_size * i)
-        (with_bit b (get_or part (outcome_size * i) 0) (get_or below (outcome_size * i) 0))
-        (smaller (get_or part (outcome_size * i + 1) 0) (get_or below (outcome_size * i + 1) 0))
-        (either (get_or part (outcome_size * i + 2) 0) (get_or below (outcome_size * i + 2) 0))
-        (larger (get_or part (outcome_size * i + 3) 0) (get_or below (outcome_size * i + 3) 0))
-        ≡ over below (outcome_size * i) 4 (joined b part below i)
-    station_joined =
-        rw (← joined_value, ← joined_grade, ← joined_flag, ← joined_count) (put_over below (outcome_size * i) (joined b part below i))
-
-  pub station_left : get_or below (outcome_size * i + 1) 0 ≡ 255 → outcome_size * i + 4 ≤ length below
-      → below ≡ over below (outcome_size * i) 4 (joined b part below i)
-  station_left e h = sym (over_there below (outcome_size * i) 4 _ h (λ d _. joined_bad e d))
+chunk_at : (n k : ℕ) (l : List ℕ) (i : ℕ) → i < k → get_or (first_chunks n k l) i [] ≡ take n (drop (n * i) l)
+chunk_at n zero l i h = absurd (omega arith)
+chunk_at n (suc k) l zero h = rw mul-zero
+chunk_at n (suc k) l (suc i) h =
+    let e : n + n * i ≡ n * suc i = omega (arith, mul-suc n i) in
+    chunk_at n k (drop n l) i (omega arith) ∙ rw (drop-drop, e)
 
 -- ---- all stations
 
@@ -107,12 +104,22 @@ module _ (b : ℕ) (part below : List ℕ) where
   from_front : (i : ℕ) (l : List ℕ) (F : ℕ → ℕ) → over l (0 + outcome_size * i) 4 F ≡ over l (outcome_size * i) 4 F
   from_front i l F = let z : 0 + outcome_size * i ≡ outcome_size * i = omega arith in rw z
 
-  pub station_turn : (i : ℕ) (l l' : List ℕ) → l ≡ over below 0 (outcome_size * i) (added_byte b part below)
-      → l' ≡ over l (outcome_size * i) 4 (joined b part l i) → l' ≡ over below 0 (outcome_size * (i + 1)) (added_byte b part below)
-  station_turn i l l' e e' =
+  -- a station is given alone, in its place in the part's chunks and in the outcomes so far
+  pub station_turn : Alike part below → (i : ℕ) → i < length below / outcome_size → (l new : List ℕ) (k : ℕ) → l ≡ over below 0 (outcome_size * i) (added_byte b part below)
+      → k ≡ 4 → length new ≡ length (take k (drop (outcome_size * i) l))
+      → Each 4 new (joined b (get_or (first_chunks 4 (length part / 4) part) i []) (take k (drop (outcome_size * i) l)) 0)
+      → spliced l new (outcome_size * i) k ≡ over below 0 (outcome_size * (i + 1)) (added_byte b part below)
+  unfolding Each
+  station_turn alike i h l new k e q size each =
+      let long : length l ≡ length below = ap length e ∙ over_length below 0 (added_byte b part below) (outcome_size * i) in
+      let room : outcome_size * i + 4 ≤ length l = omega arith in
+      let its_size : length new ≡ 4 = size ∙ rw q (length-take-le 4 (drop (outcome_size * i) l) (rw length-drop (omega arith))) in
+      let its_part = chunk_at 4 (length part / 4) part i (rw alike.part_size h) in
+      let its_bytes : (d : ℕ) → d < 4 → get_or new d 0 ≡ joined b part l i d
+      = λ (d : ℕ) (u : d < 4). (rw (q, its_part) at each) d u ∙ joined_alone b part l i d u in
       let z : outcome_size * (i + 1) ≡ outcome_size * i + 4 = omega arith in
-      rw z
-      (e'
+      rw (q, z)
+      (over_part l new (outcome_size * i) 4 room its_size (joined b part l i) its_bytes
       ∙ ap (λ (k : List ℕ). over k (outcome_size * i) 4 (joined b part l i)) e
       ∙ sym (from_front i _ _)
       ∙ over_on below 0 (outcome_size * i) (added_byte b part below) (joined b part l i) 4 (joined_later i l e))

@@ -14,17 +14,16 @@ use borrow.Author.Tests.{eq-eqb, ne_eqb, eqb-true, eqb-false}
 use Rattle.std.specs.Prelude.{if◌then◌else◌}
 use Rattle.line.specs.Line.{outcome_size, outcomes_length, table_length}
 use Rattle.line.specs.Marks.{marked}
-use Rattle.line.specs.Width.{bits, bit_of, tables_length, largest_tables, part_of}
+use Rattle.line.specs.Width.{bits, bit_of, tables_length, part_of}
 use Rattle.line.proofs.CountLaws.{le_or_lt}
 use Rattle.line.proofs.LineLaws.{row_within}
 use Rattle.line.proofs.WritingLaws.{spliced, spliced_length, spliced_before, spliced_there}
-use Rattle.line.proofs.WidthLaws.{bits_some, bits_most, tables_bound, part_at, part_size}
+use Rattle.line.proofs.WidthLaws.{bits_some, bits_most, part_at, part_size}
 use Rattle.refusal.specs.Cause.{Verdict, no_cause}
 use Rattle.header.specs.Header.{SoundNumber}
 use Rattle.header.proofs.HeaderLaws.{header_accepts, length_accepts, bit_sound}
 use Rattle.broadcast.specs.Bytes.{log, pick, outcome_byte, outcome_bytes, setting}
 use Rattle.broadcast.specs.Guarantees.{Good}
-use Rattle.broadcast.specs.Station.{at}
 use Rattle.broadcast.specs.Theorems.{value_at, grade_at}
 use Rattle.broadcast.proofs.BytesLaws.{tabulate_same, log_size}
 use Rattle.number.specs.Digits.{number_of, smallest, any, largest}
@@ -211,10 +210,3 @@ module _ (N : NumberRun) (logs₀ outcomes₀ : List ℕ) (ready : Playable N lo
         → Played N (b + 1) (take from bytes ++ (part₁ ++ drop k (drop from bytes))) results₁
     unfolding bit_run part_of
     turn_played from k e q Q = rw (add-one b, e, q) (bit_played b more bytes results P part₁ results₁ answer (rw (e, q) at Q))
-
-  -- bit b's part ends within the tables, and so within 64 bits
-  pub part_ends : (b : ℕ) → b < bits N.w → b * table_length N.n N.t + table_length N.n N.t ≤ tables_length N.n N.t N.w
-  part_ends b h = row_within b (table_length N.n N.t) (bits N.w) h
-
-  pub tables_small : tables_length N.n N.t N.w ≤ largest_tables
-  tables_small = tables_bound N.n N.t N.T N.w ready.header.most ready.header.fits ready.header.narrow

@@ -1,20 +1,15 @@
 -- What the private functions do: for their contracts, and no part of what the public calls promise.
-use Rattle.std.specs.Prelude.{ℕ, ◌+◌, ◌-◌, ◌*◌, ◌≤◌, ◌<◌, ◌≡◌, List, length, get_or, set}
+use Rattle.std.specs.Prelude.{ℕ, ◌-◌, ◌*◌, ◌%◌, ◌≤◌, ◌<◌, ◌≡◌, List, length, get_or}
 use Rattle.line.specs.Line.{table_length, outcome_size, outcomes_length}
 use Rattle.line.specs.Width.{tables_length}
 use Rattle.header.specs.Header.{SoundNumber}
 use Rattle.broadcast.specs.Bytes.{log}
 use Rattle.number.specs.Numbers.{NumberRun, bit_run, logs, gathered, bit_outcomes, number_outcomes}
 
--- outcomes of m stations, and a part as long
-pub record Alike (m : ℕ) (part outcomes : List ℕ) : Type 0 where
-  pub size : length outcomes ≡ outcome_size * m
-  pub few : m ≤ 32
-  pub part_size : length part ≡ outcome_size * m
-
--- a list with four bytes put from a place on
-unfoldable pub put_four : List ℕ → (at a b c d : ℕ) → List ℕ
-put_four l at a b c d = set (set (set (set l at a) (at + 1) b) (at + 2) c) (at + 3) d
+-- outcomes of whole stations, and a part as long
+pub record Alike (part outcomes : List ℕ) : Type 0 where
+  pub whole : length outcomes % outcome_size ≡ 0
+  pub part_size : length part ≡ length outcomes
 
 -- a number's run that is not refused, with logs and outcomes for it
 pub record Playable (N : NumberRun) (logs outcomes : List ℕ) : Type 0 where

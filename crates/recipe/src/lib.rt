@@ -31,7 +31,7 @@ fn bit_beside(
     ensures { RehearsedBit b (run_of line.n line.t line.upper sender value marks table.now) log.old log.new outcomes.old outcomes.new result }
 {
     rehearsal::rehearse(line, sender, value, marks, table, log, part)?;
-    gather::add(b, line.n, part, outcomes);
+    gather::add(b, part, outcomes);
     Ok(())
 }
 
@@ -54,7 +54,7 @@ pub fn bit(
         return rehearsal::rehearse(line, sender, value, marks, table, log, outcomes);
     }
     let mut part = [0u8; PART];
-    let m = slices::shorter(outcomes.len(), PART);
+    let m = outcomes.len().min(PART);
     bit_beside(
         line,
         sender,
@@ -103,23 +103,19 @@ fn run(
     ensures { Ran (number_run_of line.n line.t line.upper sender number w marks tables.now) logs.new outcomes.new }
 {
     let size = line.table_len();
-    let bits = width::bits(w);
-    let mut b: u8 = 0;
-    let mut at: usize = 0;
-    while b < bits {
-        let end = at + size;
+    // By places: a proof knows nothing of what is written through `chunks_exact_mut`.
+    for b in 0..width::bits(w) {
+        let at = usize::from(b) * size;
         let _ = bit(
             line,
             sender,
             number,
             b,
             marks,
-            &tables[at..end],
-            &mut logs[at..end],
+            &tables[at..at + size],
+            &mut logs[at..at + size],
             outcomes,
         );
-        at = end;
-        b += 1;
     }
 }
 

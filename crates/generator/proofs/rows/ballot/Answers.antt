@@ -1,5 +1,4 @@
 -- `ballot` meets its contract.
-use borrow.Author.Rules.{rules}
 use borrow.Author.Tests.{eq-eqb, ne_eqb}
 use Rattle.generator.specs.Tables.{ballot}
 use Rattle.generator.proofs.rows.ballot.Goals as goal

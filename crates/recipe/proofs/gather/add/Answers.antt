@@ -1,32 +1,20 @@
 -- `add` meets its contract. The loop's invariant: the first i stations' bytes are there.
-use Rattle.line.proofs.WritingLaws.{over_none, over_length}
-use Rattle.recipe.proofs.GatherLaws.{station_turn, all_added}
+use Rattle.std.proofs.Common.{◌≡◌, ◌∙◌, ◌<◌, ◌/◌, length, arith}
 use Rattle.line.specs.Line.{outcome_size}
-use Rattle.line.specs.Writing.{over}
-use Rattle.recipe.specs.Gathered.{added_byte}
-use borrow.Author.Rules.{rules}
-use native.Mathlib.Omega.{arith}
-use Prim.Native.Nat.{◌*◌, ◌-◌, ◌≤◌}
-use mathlib.Core.Path.{◌≡◌, ap, ◌∙◌}
-use lib.ListN.{length}
+use Rattle.line.proofs.WritingLaws.{over_none}
+use Rattle.recipe.proofs.GatherLaws.{station_turn, all_added}
 use Rattle.recipe.proofs.gather.add.Goals as goal
 
 pub loop-i-init : goal.loop-i-init
-loop-i-init c = (omega arith, over_none _ _ _)
-
-pub add_station-requires : goal.add_station-requires
-add_station-requires c =
-    (record { size = ap length c.loop-i.invariant.1 ∙ over_length _ _ _ _ ∙ c.requires.size; few = c.requires.few; part_size = c.requires.part_size }, omega (arith, c.loop-i-test.true))
+loop-i-init c = over_none _ _ _
 
 pub loop-i-preserved : goal.loop-i-preserved
 loop-i-preserved c =
-    let inv = c.loop-i.invariant in
-    (omega arith, station_turn _ _ _ _ _ _ inv.1 c.add_station.ensures)
-
-pub shape_of-outcomes : goal.shape_of-outcomes
-shape_of-outcomes c = ap length c.loop-i.invariant.1 ∙ over_length _ _ _ _
+    let more : c.loop-i.i < length c.args.outcomes.now / outcome_size = omega (arith, c.as_chunks.ensures.front_len, c.requires.part_size) in
+    station_turn c.args.b c.args.part.now c.args.outcomes.now c.requires c.loop-i.i more c.loop-i.outcomes c.add_station.new.outcome _ c.loop-i.invariant (omega arith) c.add_station.auto.outcome
+    (rw c.as_chunks.ensures.front at c.add_station.ensures)
 
 pub returns : goal.returns
 returns c =
-    let all : c.loop-i.i ≡ c.args.n = omega (arith, c.loop-i-test) in
-    c.loop-i.invariant.1 ∙ rw all (all_added _ _ _ c.args.n c.requires.size)
+    let all : c.loop-i.i ≡ length c.args.outcomes.now / outcome_size = omega (arith, c.as_chunks.ensures.front_len, c.requires.part_size) in
+    c.loop-i.invariant ∙ rw all (all_added _ _ _ (length c.args.outcomes.now / outcome_size) (omega (arith, c.requires.whole)))
