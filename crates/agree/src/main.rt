@@ -6,7 +6,7 @@ ghost use Rattle.std.specs.Counts.{IsPrefixLen};
 ghost use Rattle.layout.specs.Layout.{longest_sheet};
 ghost use Rattle.listing.specs.Promise.{Listed};
 
-use input::Input;
+use line::Line;
 use std::io;
 
 // The longest listing (`ListingShort` of crate listing).
@@ -16,8 +16,8 @@ const LONGEST: usize = 457;
 fn listed(sheet: &[u8], text: &mut [u8; LONGEST]) -> usize
     ensures { Listed sheet.now text.new result × IsPrefixLen result text.new }
 {
-    let mut table = [255; 36864];
-    let mut log = [255; 36864];
+    let mut table = [255; Line::LARGEST_TABLE];
+    let mut log = [255; Line::LARGEST_TABLE];
     listing::list(sheet, &mut table, &mut log, text)
 }
 
@@ -34,11 +34,8 @@ fn list(rt: &(impl Print + Eprint), sheet: &[u8]) {
 fn read(rt: &(impl io::Input + Print + Eprint), sheet: &mut [u8])
     requires { length sheet.old ≡ longest_sheet + 1 }
 {
-    match input::whole(&mut rt.reader(), sheet) {
-        Input::Bytes(n) => list(rt, &sheet[..n]),
-        Input::Failed(_) => {
-            let _ = rt.eprintln("agree: standard input could not be read");
-        }
+    if let Some(n) = input::standard(rt, "agree", sheet) {
+        list(rt, &sheet[..n]);
     }
 }
 

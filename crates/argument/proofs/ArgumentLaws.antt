@@ -3,47 +3,34 @@ use Prim.Native.Nat.{ℕ, ◌+◌, ◌-◌, ◌*◌, ◌≤◌, ◌<◌, min}
 use mathlib.Core.Path.{◌≡◌, refl, sym, ◌∙◌}
 use mathlib.Core.Bool.{Bool, true, false, ◌&&◌, true≢false}
 use mathlib.Core.List.{List}
-use mathlib.Core.Logic.{◌⊎◌, inl, inr}
 use native.Mathlib.Omega.{arith}
-use native.Mathlib.Nat.{min-eq_left, min-eq_right}
 use native.Mathlib.Numerals.{add-one}
 use lib.Dec.{leb}
 use lib.ListN.{length, get_or}
-use borrow.Author.Tests.{leb-true, le-leb, lt-leb}
+use borrow.Author.Tests.{le-leb, lt-leb}
 use Rattle.line.specs.Count.{all}
-use Rattle.line.proofs.CountLaws.{le_or_lt, both_true, both_hold, all_true}
-use Rattle.argument.specs.declared.Argument.TheVariants.{Number, Other}
+use Rattle.line.proofs.CountLaws.{both_hold, all_true}
+use Rattle.std.specs.Prelude.{Some, None}
+use Rattle.std.specs.Char.{is_ascii_digit}
 use Rattle.argument.specs.Argument.{digit_byte, read, argument}
 
 -- ---- one byte
 
-pub digit_low : (b : ℕ) → digit_byte b ≡ true → 48 ≤ b
+pub digit_is : (b : ℕ) → is_ascii_digit b ≡ digit_byte b
 unfolding digit_byte
-digit_low b e = leb-true 48 b (both_true _ _ e).0
-
-pub below_digits : (b : ℕ) → b < 48 → digit_byte b ≡ false
-unfolding digit_byte
-below_digits b h = rw (lt-leb 48 b h)
+digit_is b = refl
 
 -- ---- one digit more, as far as 255
 
-more : (a d : ℕ) → min (10 * min a 255 + d) 255 ≡ min (10 * a + d) 255
-more a d = go (le_or_lt a 255)
-  where
-    go : (a ≤ 255) ⊎ (255 < a) → min (10 * min a 255 + d) 255 ≡ min (10 * a + d) 255
-    go (inl h) = rw (min-eq_left h)
-    go (inr h) =
-        let l : 255 ≤ a = omega arith in
-        let u : 255 ≤ 10 * 255 + d = omega arith in
-        let w : 255 ≤ 10 * a + d = omega arith in
-        rw (min-eq_right l, min-eq_right u, min-eq_right w)
+more : (a d : ℕ) → min (min (min a 255 * 10) 255 + d) 255 ≡ min (10 * a + d) 255
+more a d = omega arith
 
 module _ (bytes : List ℕ) where
   pub read_none : read bytes 0 ≡ 0
   unfolding read
   read_none = refl
 
-  pub read_turn : (i x : ℕ) → x ≡ min (read bytes i) 255 → min (10 * x + (get_or bytes i 0 - 48)) 255 ≡ min (read bytes (i + 1)) 255
+  pub read_turn : (i x : ℕ) → x ≡ min (read bytes i) 255 → min (min (x * 10) 255 + (get_or bytes i 0 - 48)) 255 ≡ min (read bytes (i + 1)) 255
   unfolding read
   read_turn i x e = rw (e, add-one i) (more (read bytes i) (get_or bytes i 0 - 48))
 
@@ -60,7 +47,7 @@ module _ (bytes : List ℕ) where
 
   -- ---- what they are
 
-  pub other_byte : (i : ℕ) → i < length bytes → digit_byte (get_or bytes i 0) ≡ false → argument bytes ≡ Other
+  pub other_byte : (i : ℕ) → i < length bytes → digit_byte (get_or bytes i 0) ≡ false → argument bytes ≡ None
   unfolding argument
   other_byte i h e = rw (none (all (length bytes) (λ k. digit_byte (get_or bytes k 0))) refl, last (leb 1 (length bytes)))
     where
@@ -72,11 +59,11 @@ module _ (bytes : List ℕ) where
       last true = refl
       last false = refl
 
-  pub no_byte : length bytes ≡ 0 → argument bytes ≡ Other
+  pub no_byte : length bytes ≡ 0 → argument bytes ≡ None
   unfolding argument
   no_byte e = rw (lt-leb 1 (length bytes) (omega arith))
 
   pub a_number : 1 ≤ length bytes → all (length bytes) (λ k. digit_byte (get_or bytes k 0)) ≡ true
-      → argument bytes ≡ Number (min (read bytes (length bytes)) 255)
+      → argument bytes ≡ Some (min (read bytes (length bytes)) 255)
   unfolding argument
   a_number h e = rw (le-leb 1 (length bytes) h, e)

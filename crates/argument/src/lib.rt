@@ -1,49 +1,19 @@
 // A number among a program's arguments.
 #![tactic(auto)]
 
-ghost use Rattle.std.specs.Prelude.{◌≡◌, ◌+◌, ◌-◌, ◌*◌, ◌≤◌, min};
-ghost use Rattle.argument.specs.Argument.{digit_byte, argument};
+ghost use Rattle.std.specs.Prelude.{◌≡◌};
+ghost use Rattle.argument.specs.Argument.{argument};
 
-#[derive(Clone, Copy)]
-pub enum Argument {
-    // A decimal number; one above 255 is told as 255.
-    Number(u8),
-    Other,
-}
-
-fn is_digit(b: u8) -> bool
-    ensures { result ≡ digit_byte b }
-{
-    if b < b'0' {
-        return false;
-    }
-    b <= b'9'
-}
-
-// The number x with one digit more, as far as 255.
-fn with_digit(x: u8, b: u8) -> u8
-    requires { 48 ≤ b }
-    ensures { result ≡ min (10 * x + (b - 48)) 255 }
-{
-    let all = 10 * (x as u16) + (b - 48) as u16;
-    if all < 255 { all as u8 } else { 255 }
-}
-
-// What an argument's bytes are.
-pub fn number(bytes: &[u8]) -> Argument
+// The decimal number that an argument's bytes are; one above 255 is told as 255.
+pub fn number(bytes: &[u8]) -> Option<u8>
     ensures { result ≡ argument bytes.now }
 {
     let mut x: u8 = 0;
-    let mut i: usize = 0;
-    while i < bytes.len() {
-        if !is_digit(bytes[i]) {
-            return Argument::Other;
+    for b in bytes {
+        if !b.is_ascii_digit() {
+            return None;
         }
-        x = with_digit(x, bytes[i]);
-        i += 1;
+        x = x.saturating_mul(10).saturating_add(*b - b'0');
     }
-    if i == 0 {
-        return Argument::Other;
-    }
-    Argument::Number(x)
+    if bytes.is_empty() { None } else { Some(x) }
 }

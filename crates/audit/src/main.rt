@@ -4,19 +4,17 @@
 
 mod trouble;
 
-ghost use Rattle.std.specs.Prelude.{◌≡◌, ◌+◌, length, take};
+ghost use Rattle.std.specs.Prelude.{◌≡◌, ◌+◌, length, take, IfSome};
 ghost use Rattle.std.specs.Counts.{IsPrefixLen};
 ghost use Rattle.input.specs.Reading.{Within};
 ghost use Rattle.checker.specs.Promise.{logged, check_answer};
 ghost use Rattle.finding.specs.Finding.{finding};
 
-use argument::Argument;
-use input::Input;
 use line::Line;
 use std::env::FillError;
 use std::fs::File;
 use std::io;
-use std::io::{Read, Stderr};
+use std::io::Stderr;
 use std::rt::{Env, Files};
 
 // The longest line (`FindingShort` of crate finding).
@@ -42,75 +40,51 @@ fn tell(rt: &(impl Print + Eprint), line: Line, sender: u8, log: &[u8], outcomes
     }
 }
 
-// Reads an open file to its end.
-fn read_open<F: Read>(errors: Stderr, file: &mut F, name: &[u8], buf: &mut [u8]) -> Input
+// Reads the file of that name to its end. The library's names of files are text: a name that is none is told by the system's word for that.
+fn read_named(rt: &impl Files, name: &[u8], buf: &mut [u8]) -> io::Result<usize>
     ensures { Within result buf.new }
 {
-    let got = input::whole(file, buf);
-    if let Input::Failed(why) = got {
-        trouble::say(errors, name, why);
-    }
-    got
-}
-
-// Reads the file of that name.
-fn read_named<R: Files>(rt: &R, errors: Stderr, name: &[u8], buf: &mut [u8]) -> Input
-    ensures { Within result buf.new }
-{
-    match opened(rt, name) {
-        Ok(mut file) => read_open(errors, &mut file, name, buf),
-        Err(why) => {
-            trouble::say(errors, name, why);
-            Input::Failed(why)
-        }
-    }
-}
-
-// Opens it. The library's names of files are text: a name that is none is told by the system's word for that.
-fn opened<R: Files>(rt: &R, name: &[u8]) -> io::Result<R::File> {
-    match std::str::from_utf8(name) {
-        Ok(text) => File::open(rt, text),
-        Err(_) => Err(trouble::not_text()),
-    }
+    let text = std::str::from_utf8(name).map_err(|_| trouble::not_text())?;
+    input::whole(&mut File::open(rt, text)?, buf)
 }
 
 // Reads the file that argument i names, or says why it can't be. The buffer has one byte more than the most that is wanted, which tells that the file is longer.
-fn read<R: Env + Files>(rt: &R, errors: Stderr, i: usize, most: usize, buf: &mut [u8]) -> Input
+fn read<R: Env + Files>(
+    rt: &R,
+    errors: Stderr,
+    i: usize,
+    most: usize,
+    buf: &mut [u8],
+) -> Option<usize>
     requires { length buf.old ≡ most + 1 }
-    ensures { Within result buf.new }
+    ensures { IfSome result (λ n. IsPrefixLen n buf.new) }
 {
     let mut name = [0u8; LONGEST_ARGUMENT];
-    match rt.arg(i, &mut name) {
-        Ok(len) => read_named(rt, errors, &name[..len], buf),
-        Err(why) => {
-            let why = trouble::of_argument(why);
-            trouble::say(errors, &name, why);
-            Input::Failed(why)
-        }
-    }
+    let (name, got) = match rt.arg(i, &mut name) {
+        Ok(len) => (&name[..len], read_named(rt, &name[..len], buf)),
+        Err(why) => (&name[..], Err(trouble::of_argument(why))),
+    };
+    got.inspect_err(|why| trouble::say(errors, name, *why)).ok()
 }
 
 // Reads both files.
 fn audit<R: Env + Files + Print + Eprint>(rt: &R, errors: Stderr, line: Line, sender: u8) {
     let mut log = [0u8; Line::LARGEST_TABLE + 1];
     let mut outcomes = [0u8; Line::LARGEST_OUTCOMES + 1];
-    let Input::Bytes(log_len) = read(rt, errors, 5, Line::LARGEST_TABLE, &mut log) else {
+    let Some(log_len) = read(rt, errors, 5, Line::LARGEST_TABLE, &mut log) else {
         return;
     };
-    let Input::Bytes(outcomes_len) = read(rt, errors, 6, Line::LARGEST_OUTCOMES, &mut outcomes)
-    else {
+    let Some(outcomes_len) = read(rt, errors, 6, Line::LARGEST_OUTCOMES, &mut outcomes) else {
         return;
     };
     tell(rt, line, sender, &log[..log_len], &outcomes[..outcomes_len]);
 }
 
 // Argument i as a number.
-fn number(rt: &impl Env, i: usize) -> Argument {
+fn number(rt: &impl Env, i: usize) -> Option<u8> {
     let mut text = [0u8; LONGEST_ARGUMENT];
-    match rt.arg(i, &mut text) {
-        Ok(len) => argument::number(&text[..len]),
-        Err(_) => Argument::Other,
-    }
+    let len = rt.arg(i, &mut text).ok()?;
+    argument::number(&text[..len])
 }
 
 // Whether there is an argument i.
@@ -118,34 +92,25 @@ fn is_given(rt: &impl Env, i: usize) -> bool {
     !matches!(rt.arg(i, &mut []), Err(FillError::NotPresent))
 }
 
-// Whether the arguments are as wanted, and then what they ask for.
-fn asked<R: Env + Files + Print + Eprint>(rt: &R, errors: Stderr) -> bool {
-    if !is_given(rt, 6) {
-        return false;
+// The line and the sender that the arguments ask for, if they are as wanted.
+fn asked(rt: &impl Env) -> Option<(Line, u8)> {
+    if !is_given(rt, 6) || is_given(rt, 7) {
+        return None;
     }
-    if is_given(rt, 7) {
-        return false;
-    }
-    let Argument::Number(n) = number(rt, 1) else {
-        return false;
-    };
-    let Argument::Number(t) = number(rt, 2) else {
-        return false;
-    };
-    let Argument::Number(upper) = number(rt, 3) else {
-        return false;
-    };
-    let Argument::Number(sender) = number(rt, 4) else {
-        return false;
-    };
-    audit(rt, errors, Line { n, t, upper }, sender);
-    true
+    let n = number(rt, 1)?;
+    let t = number(rt, 2)?;
+    let upper = number(rt, 3)?;
+    let sender = number(rt, 4)?;
+    Some((Line { n, t, upper }, sender))
 }
 
 fn main(rt: HostRuntime) {
-    if !asked(&rt, rt.stderr()) {
-        let _ = rt.eprintln(
-            "audit: wanted are n, t, T and the sender in decimal, the log's file and the outcomes' file",
-        );
+    match asked(&rt) {
+        Some((line, sender)) => audit(&rt, rt.stderr(), line, sender),
+        None => {
+            let _ = rt.eprintln(
+                "audit: wanted are n, t, T and the sender in decimal, the log's file and the outcomes' file",
+            );
+        }
     }
 }

@@ -5,7 +5,7 @@ use Rattle.std.specs.declared.result.Result.{Result}
 use Rattle.std.specs.declared.result.Result.TheVariants.{Ok, Err}
 use mathlib.Core.Path.{◌≡◌, refl}
 use mathlib.Core.Bool.{Bool, true, false}
-use mathlib.Core.List.{List, [], ◌∷◌}
+use mathlib.Core.List.{List, [], ◌∷◌, ◌++◌, append-nil}
 use mathlib.Core.Logic.{◌⊎◌, inl, inr}
 use native.Mathlib.Omega.{arith}
 use native.Mathlib.Nat.{le_of_eq}
@@ -22,26 +22,19 @@ use Rattle.text.proofs.LaidLaws.{puts_then}
 use Rattle.listing_lines.proofs.LineLaws.{refusal_short}
 use Rattle.finding.specs.Finding.{number_if, numbers, broke_line, finding}
 
--- ---- one number
-
-pub number_there : (marks i : ℕ) → marked marks i ≡ true → number_if marks i ≡ space ∷ numeral (i + 1)
-unfolding number_if
-number_there marks i e = rw e
-
-pub number_not : (marks i : ℕ) → marked marks i ≡ false → number_if marks i ≡ []
-unfolding number_if
-number_not marks i e = rw e
-
--- ---- all
+-- ---- station after station
 
 pub numbers_none : (marks : ℕ) → numbers marks 0 ≡ []
 unfolding numbers
 numbers_none marks = refl
 
-pub numbers_turn : {l₀ l₁ l₂ : List ℕ} {a b c : ℕ} (marks i : ℕ) → Puts l₀ l₁ a (numbers marks i) b → Puts l₁ l₂ b (number_if marks i) c
-    → Puts l₀ l₂ a (numbers marks (i + 1)) c
-unfolding numbers
-numbers_turn marks i p q = rw (add-one i) (puts_then p q)
+pub numbers_more : (marks i : ℕ) → marked marks i ≡ true → numbers marks (i + 1) ≡ numbers marks i ++ space ∷ numeral (i + 1)
+unfolding numbers number_if
+numbers_more marks i e = rw (add-one i, e, add-one i)
+
+pub numbers_same : (marks i : ℕ) → marked marks i ≡ false → numbers marks (i + 1) ≡ numbers marks i
+unfolding numbers number_if
+numbers_same marks i e = rw (add-one i, e, append-nil)
 
 -- ---- how long it is: a space and one digit for the numbers to 9, two for the others
 

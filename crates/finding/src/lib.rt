@@ -2,33 +2,21 @@
 // number of the cause.
 #![tactic(auto)]
 
-ghost use Rattle.std.specs.Prelude.{◌<◌};
 ghost use Rattle.text.specs.Laid.{Puts};
-ghost use Rattle.finding.specs.Finding.{number_if, numbers, broke_line, finding};
+ghost use Rattle.finding.specs.Finding.{numbers, broke_line, finding};
 
 use line::marks;
 use refusal::cause::Cause;
 
-// The number of the station counted i from 0 after a space, if it is marked.
-fn number_if(out: &mut [u8], at: usize, marks: u32, i: u8) -> usize
-    requires { i < 32 }
-    ensures { Puts out.old out.new at (number_if marks i) result }
-{
-    if marks::is_marked(marks, i) {
-        return text::field(out, at, (i + 1) as u64);
-    }
-    at
-}
-
-// The numbers of all that are marked, in order.
+// The numbers of all stations that are marked, in order, each after a space.
 fn numbers(out: &mut [u8], at: usize, marks: u32) -> usize
     ensures { Puts out.old out.new at (numbers marks 32) result }
 {
     let mut place = at;
-    let mut i: u8 = 0;
-    while i < 32 {
-        place = number_if(out, place, marks, i);
-        i += 1;
+    for i in 0..32 {
+        if marks::is_marked(marks, i) {
+            place = text::field(out, place, i as u64 + 1);
+        }
     }
     place
 }

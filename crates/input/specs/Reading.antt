@@ -1,29 +1,20 @@
 -- What an answer tells of the buffer that was read into.
-use Rattle.std.specs.Prelude.{ℕ, zero, suc, ◌+◌, ◌^◌, ◌<◌, List, Result, Ok, Err}
+use Rattle.std.specs.Prelude.{ℕ, zero, suc, ◌+◌, ◌^◌, ◌<◌, List, Result, Ok, Err, IfOk}
 use Rattle.std.specs.Counts.{IsPrefixLen}
 use Rattle.std.specs.declared.io.Error.{Error}
-use Rattle.input.specs.declared.Input.{Input}
-use Rattle.input.specs.declared.Input.TheVariants.{Bytes, Failed}
-use Rattle.input.specs.declared.Next.{Next}
-use Rattle.input.specs.declared.Next.TheVariants.{On, End}
-
--- what a read answered, in our terms: an error is a failure, and a number is that of the bytes, which are no more than the buffer has (`Read::read` says so)
-unfoldable pub of_read : Result ℕ Error → Input
-of_read (Ok n) = Bytes n
-of_read (Err why) = Failed why
+use Rattle.std.specs.declared.ops.ControlFlow.{ControlFlow}
+use Rattle.std.specs.declared.ops.ControlFlow.TheVariants.{Continue, Break}
 
 -- as many bytes as are told of stand at the buffer's start; of a read that failed nothing is said
-abbrev pub Within : Input → List ℕ → Type 0
-Within (Bytes n) buffer = IsPrefixLen n buffer
-Within (Failed why) buffer = Unit
+abbrev pub Within : Result ℕ Error → List ℕ → Type 0
+Within answer buffer = IfOk answer (λ n. IsPrefixLen n buffer)
 
 -- what is to be done after a read where `done` bytes were there: one of no byte is the end of the input, one that failed is told; after any other it is read on
-unfoldable pub following : ℕ → Input → Next
-following done (Bytes zero) = End (Bytes done)
-following done (Bytes (suc k)) = On (done + suc k)
-following done (Failed why) = End (Failed why)
+unfoldable pub following : ℕ → Result ℕ Error → ControlFlow (Result ℕ Error) ℕ
+following done (Ok zero) = Break (Ok done)
+following done (Ok (suc k)) = Continue (done + suc k)
+following done (Err why) = Break (Err why)
 
 -- the bytes there then can be counted
-abbrev pub Room : ℕ → Input → Type 0
-Room done (Bytes n) = done + n < 2 ^ 64
-Room done (Failed why) = Unit
+abbrev pub Room : ℕ → Result ℕ Error → Type 0
+Room done got = IfOk got (λ n. done + n < 2 ^ 64)

@@ -48,10 +48,8 @@ fn run_bits(header: Header, sheet: &[u8], table: &mut [u8], log: &mut [u8], outc
 {
     let bits = width::bits(header.w);
     rehearse_bit(header, 0, table, log, outcomes);
-    let mut b: u8 = 1;
-    while b < bits {
+    for b in 1..bits {
         next_bit(header, sheet, b, table, log, outcomes);
-        b += 1;
     }
 }
 
@@ -105,7 +103,7 @@ pub fn list(sheet: &[u8], table: &mut [u8], log: &mut [u8], text: &mut [u8]) -> 
     ensures { Lists sheet.now table.old table.new log.old log.new text.old text.new result }
 {
     let len = layout::table_len(sheet);
-    let a = slices::shorter(len, table.len());
-    let b = slices::shorter(a, log.len());
+    let a = len.min(table.len());
+    let b = a.min(log.len());
     list_whole(sheet, &mut table[..b], &mut log[..b], text)
 }

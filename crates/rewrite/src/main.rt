@@ -10,7 +10,6 @@ ghost use Rattle.writer.specs.Sheet.{sheet};
 ghost use Rattle.writer.specs.Judgement.{before_buffer};
 ghost use Rattle.rewrite.specs.Output.{Rewritten};
 
-use input::Input;
 use line::Line;
 use std::io;
 
@@ -47,7 +46,7 @@ fn rewritten(sheet: &[u8], out: &mut [u8; LONGEST]) -> usize
     ensures { Rewritten sheet.now out.new result × IsPrefixLen result out.new }
 {
     let mut table = [255; Line::LARGEST_TABLES];
-    let len = slices::shorter(layout::tables_len(sheet), Line::LARGEST_TABLES);
+    let len = layout::tables_len(sheet).min(Line::LARGEST_TABLES);
     rewrite(sheet, &mut table[..len], out)
 }
 
@@ -64,11 +63,8 @@ fn put(rt: &(impl Print + Eprint), sheet: &[u8]) {
 fn read(rt: &(impl io::Input + Print + Eprint), sheet: &mut [u8])
     requires { length sheet.old ≡ longest_sheet + 1 }
 {
-    match input::whole(&mut rt.reader(), sheet) {
-        Input::Bytes(n) => put(rt, &sheet[..n]),
-        Input::Failed(_) => {
-            let _ = rt.eprintln("rewrite: standard input could not be read");
-        }
+    if let Some(n) = input::standard(rt, "rewrite", sheet) {
+        put(rt, &sheet[..n]);
     }
 }
 

@@ -30,8 +30,8 @@ table_rows n t some = rows_whole n (table_length n t) some (mul-mod_left (rounds
 
 module _ (h : Header) (seed : ℕ) (table bytes results : List ℕ) where
   -- before the first
-  pub bits_begin : SoundHeader h → length table ≡ table_length h.line.n h.t → length bytes ≡ table_length h.line.n h.t
-      → length results ≡ outcomes_length h.n → BitsRun h seed 0 seed table bytes results
+  pub bits_begin : SoundHeader h → length table ≡ table_length h.line.n h.line.t → length bytes ≡ table_length h.line.n h.line.t
+      → length results ≡ outcomes_length h.line.n → BitsRun h seed 0 seed table bytes results
   unfolding seed_run
   bits_begin sound a b c = record {
     sound = sound;

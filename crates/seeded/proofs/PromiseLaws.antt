@@ -35,8 +35,8 @@ module _ (h : Header) (seed : ℕ) (table₀ log₀ outcomes₀ : List ℕ) wher
       bits_begin h seed table₀ log₀ outcomes₀ (number_sound _ _ _ _ _ _ _ a) (length_exact _ _ b) (length_exact _ _ c) (length_exact _ _ d)
 
   -- and a sound header with a seed that isn't zero and buffers of their lengths is not refused
-  pub not_refused : SoundHeader h → seed_some seed ≡ no_cause → length table₀ ≡ table_length h.line.n h.t → length log₀ ≡ table_length h.line.n h.t
-      → length outcomes₀ ≡ outcomes_length h.n → seed_verdict h seed (length table₀) (length log₀) (length outcomes₀) ≡ no_cause
+  pub not_refused : SoundHeader h → seed_some seed ≡ no_cause → length table₀ ≡ table_length h.line.n h.line.t → length log₀ ≡ table_length h.line.n h.line.t
+      → length outcomes₀ ≡ outcomes_length h.line.n → seed_verdict h seed (length table₀) (length log₀) (length outcomes₀) ≡ no_cause
   unfolding seed_verdict
   not_refused sound some a b c =
       rw (number_verdict_accepts _ _ _ _ _ _ _ sound, some, length_accepts _ _ a, length_accepts _ _ b, length_accepts _ _ c)

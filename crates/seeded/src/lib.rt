@@ -69,10 +69,8 @@ fn run(header: Header, seed: u32, table: &mut [u8], log: &mut [u8], outcomes: &m
 {
     let bits = width::bits(header.w);
     let mut state = seed;
-    let mut b: u8 = 0;
-    while b < bits {
+    for b in 0..bits {
         state = next_bit(header, seed, b, state, table, log, outcomes);
-        b += 1;
     }
 }
 

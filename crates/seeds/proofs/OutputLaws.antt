@@ -27,7 +27,7 @@ use Rattle.seeded.proofs.ListingLaws.{listings_short}
 use Rattle.seeds.specs.Loops.{longest_output, Ready, Begun}
 
 -- an accepted sheet's header, with outcomes of its length
-pub ready_header : (s : List ℕ) (h : Header) (table bytes results : List ℕ) → Begun s h table bytes → length results ≡ outcomes_length h.n → Ready h table bytes results
+pub ready_header : (s : List ℕ) (h : Header) (table bytes results : List ℕ) → Begun s h table bytes → length results ≡ outcomes_length h.line.n → Ready h table bytes results
 ready_header s h table bytes results B c =
     record { sound = rw B.header_is B.sound; table_whole = rw B.header_is B.table_whole; log_whole = rw B.header_is B.log_whole; outcomes_whole = c }
 

@@ -11,7 +11,6 @@ ghost use Rattle.listing_lines.specs.Text.{text};
 ghost use Rattle.seeded.specs.Listings.{last_seed, seed_lines, listings, Printed};
 ghost use Rattle.seeds.specs.Loops.{Seed, Ready, Begun, longest_output};
 
-use input::Input;
 use layout::Header;
 use line::Line;
 use std::io;
@@ -63,12 +62,10 @@ fn list_seeds(
     requires { Ready header table.old log.old outcomes.old }
     ensures { Puts out.old out.new 0 (listings header last_seed) result }
 {
-    let mut at: usize = 0;
-    let mut seed: u32 = 1;
-    while seed <= 100 {
+    let mut at = 0;
+    for seed in 1..=100 {
         at = list_seed(header, seed, table, log, outcomes, out, at);
         progress(terminal, seed);
-        seed += 1;
     }
     wipe(terminal);
     at
@@ -112,9 +109,9 @@ fn list(
 fn listed(sheet: &[u8], out: &mut [u8; LONGEST], terminal: Option<Stderr>) -> usize
     ensures { Printed sheet.now out.new result × IsPrefixLen result out.new }
 {
-    let mut table = [255; 36864];
-    let mut log = [255; 36864];
-    let len = slices::shorter(layout::table_len(sheet), Line::LARGEST_TABLE);
+    let mut table = [255; Line::LARGEST_TABLE];
+    let mut log = [255; Line::LARGEST_TABLE];
+    let len = layout::table_len(sheet).min(Line::LARGEST_TABLE);
     list(sheet, &mut table[..len], &mut log[..len], out, terminal)
 }
 
@@ -131,21 +128,14 @@ fn put(rt: &(impl Print + Eprint), terminal: Option<Stderr>, sheet: &[u8]) {
 fn read(rt: &(impl io::Input + Print + Eprint), terminal: Option<Stderr>, sheet: &mut [u8])
     requires { length sheet.old ≡ longest_sheet + 1 }
 {
-    match input::whole(&mut rt.reader(), sheet) {
-        Input::Bytes(n) => put(rt, terminal, &sheet[..n]),
-        Input::Failed(_) => {
-            let _ = rt.eprintln("seeds: standard input could not be read");
-        }
+    if let Some(n) = input::standard(rt, "seeds", sheet) {
+        put(rt, terminal, &sheet[..n]);
     }
 }
 
 // Standard error, where that is a terminal.
 fn terminal(screen: Stderr) -> Option<Stderr> {
-    if screen.is_terminal() {
-        Some(screen)
-    } else {
-        None
-    }
+    screen.is_terminal().then_some(screen)
 }
 
 fn main(rt: HostRuntime) {

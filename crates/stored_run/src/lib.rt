@@ -10,8 +10,8 @@ use refusal::cause;
 mod print;
 
 // The largest log, where a byte that is left as it was shows, being 7.
-fn sevens() -> [u8; 36864] {
-    [7; 36864]
+fn sevens() -> [u8; Line::LARGEST_TABLE] {
+    [7; Line::LARGEST_TABLE]
 }
 
 // Rehearses what an accepted sheet says.
@@ -26,7 +26,7 @@ fn decide(out: &impl Print, h: Header, table: &[u8], log: &mut [u8], outcomes: &
 fn accepted(out: &impl Print, h: Header, table: &[u8], lent: u16) {
     print::header(out, h, table);
     let mut log = sevens();
-    let a = slices::shorter(lent as usize, log.len());
+    let a = log.len().min(lent as usize);
     let mut outcomes = sevens();
     let b = Line::OUTCOME * (h.line.n as usize);
     decide(out, h, table, &mut log[..a], &mut outcomes[..b]);

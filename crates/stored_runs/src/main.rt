@@ -5,28 +5,21 @@
 use std::io;
 use std::io::Read;
 
-// A two-byte number.
-fn two(low: u8, high: u8) -> u16 {
-    low as u16 + 256 * (high as u16)
-}
-
 // The longest sheet or table that a two-byte number can ask for, of zeros.
 fn zeros() -> [u8; 65536] {
     [0; 65536]
 }
 
 // Takes a sheet that fills its buffer, and lends a table of the given length. One that is longer than the largest is part of another buffer, of zeros.
-// False: the input ends before.
+// An error: the input ends before.
 fn take(
     rt: &(impl io::Input + Print),
     k: u64,
     sheet: &mut [u8],
     lent: u16,
     table: &mut [u8; 36864],
-) -> bool {
-    if rt.reader().read_exact(sheet).is_err() {
-        return false;
-    }
+) -> io::Result<()> {
+    rt.reader().read_exact(sheet)?;
     let a = lent as usize;
     if lent <= 36864 {
         stored_run::run(rt, k, sheet, lent, &mut table[..a]);
@@ -34,18 +27,17 @@ fn take(
         let mut longer = zeros();
         stored_run::run(rt, k, sheet, lent, &mut longer[..a]);
     }
-    true
+    Ok(())
 }
 
-// Takes the next run, its lengths first. False: there is none.
-fn next(rt: &(impl io::Input + Print), k: u64, table: &mut [u8; 36864]) -> bool {
-    let mut head = [0u8; 4];
-    if rt.reader().read_exact(&mut head).is_err() {
-        return false;
-    }
+// Takes the next run, its lengths first. An error: there is none.
+fn next(rt: &(impl io::Input + Print), k: u64, table: &mut [u8; 36864]) -> io::Result<()> {
+    let mut head = [0; 4];
+    rt.reader().read_exact(&mut head)?;
+    let [a, b, c, d] = head;
+    let len = u16::from_le_bytes([a, b]) as usize;
     let mut sheet = zeros();
-    let a = two(head[0], head[1]) as usize;
-    take(rt, k, &mut sheet[..a], two(head[2], head[3]), table)
+    take(rt, k, &mut sheet[..len], u16::from_le_bytes([c, d]), table)
 }
 
 // The table before the first run.
@@ -56,8 +48,9 @@ fn filled() -> [u8; 36864] {
 // All runs, numbered from 1. Nothing says that an input ends, so the numbers do, beyond any that is used.
 fn main(rt: HostRuntime) {
     let mut table = filled();
-    let mut k: u64 = 1;
-    while k < 1000000 && next(&rt, k, &mut table) {
-        k += 1;
+    for k in 1..1000000 {
+        if next(&rt, k, &mut table).is_err() {
+            return;
+        }
     }
 }

@@ -5,13 +5,13 @@ use Rattle.input.proofs.whole.Goals as goal
 
 pub loop-done-smaller : goal.loop-done-smaller
 loop-done-smaller g c =
-    let m = on_means c.loop-done.done c.once-got.new.buf c.once-got.result c.in-On.there (sym c.in-On.ensures) c.once-got.ensures in
+    let m = on_means c.loop-done.done c.read-got.new.buf c.read-got.result c.in-Continue.there (sym c.in-Continue.ensures) c.read-got.ensures.bound in
     omega (arith, m)
 
 pub loop-done-preserved : goal.loop-done-preserved
 loop-done-preserved g c =
-    let m = on_means c.loop-done.done c.once-got.new.buf c.once-got.result c.in-On.there (sym c.in-On.ensures) c.once-got.ensures in
+    let m = on_means c.loop-done.done c.read-got.new.buf c.read-got.result c.in-Continue.there (sym c.in-Continue.ensures) c.read-got.ensures.bound in
     omega (arith, m)
 
-pub returns-in-End : goal.returns-in-End
-returns-in-End g c = end_means c.loop-done.done c.once-got.new.buf c.once-got.result _ _ (sym c.in-End.ensures) (omega arith)
+pub returns-in-Break : goal.returns-in-Break
+returns-in-Break g c = end_means c.loop-done.done c.read-got.new.buf c.read-got.result _ _ (sym c.in-Break.ensures) (omega arith)

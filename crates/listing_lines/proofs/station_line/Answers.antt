@@ -1,18 +1,22 @@
--- `station_line` meets its contract, by whether the station is bad.
-use mathlib.Core.Logic.{◌≢◌}
+-- `station_line` meets its contract.
+use Rattle.std.proofs.Common.{◌+◌, ◌*◌, get_or, rules, arith}
 use Rattle.line.specs.Line.{outcome_size}
-use Rattle.listing_lines.proofs.LineLaws.{bad_shown, good_shown}
-use borrow.Author.Rules.{rules}
-use Prim.Native.Nat.{◌+◌, ◌*◌}
-use mathlib.Core.Path.{sym, ◌∙◌}
-use lib.ListN.{get_or}
+use Rattle.line.specs.Writing.{Each}
+use Rattle.line.proofs.FromFnLaws.{each_from_fn}
+use Rattle.text.proofs.LaidLaws.{puts_then}
+use Rattle.listing_lines.proofs.LineLaws.{puts_number, bad_array, good_array}
 use Rattle.listing_lines.proofs.station_line.Goals as goal
 
-pub returns-then-g : goal.returns-then-g
-returns-then-g c =
-    rw (bad_shown c.args.outcomes.now c.args.i (sym c.at-g.ensures ∙ c.if-g.true)) c.bad_line.ensures
+pub returns-then-outcome-eq-BAD : goal.returns-then-outcome-eq-BAD
+returns-then-outcome-eq-BAD c =
+    let its : Each outcome_size c.from_fn-outcome.result (λ k. get_or c.args.outcomes.now (outcome_size * c.args.i + k) 0) =
+    each_from_fn _ _ _ _ (λ i r f' h call. search rules) _ c.from_fn-outcome.ensures.items in
+    rw (bad_array c.args.outcomes.now c.args.i c.from_fn-outcome.result c.from_fn-outcome.ensures.items.long its c.if-outcome-eq-BAD.true)
+    (puts_then (puts_number (omega arith) c.number-a.ensures) c.word.ensures)
 
 pub returns : goal.returns
 returns c =
-    let good : get_or c.args.outcomes.now (outcome_size * c.args.i + 1) 0 ≢ 255 = λ e. c.if-g.false (c.at-g.ensures ∙ e) in
-    rw (good_shown c.args.outcomes.now c.args.i good, ← c.at-g.ensures, ← c.at-v.ensures, ← c.at-f.ensures, ← c.at-k.ensures) c.good_line.ensures
+    let its : Each outcome_size c.from_fn-outcome.result (λ k. get_or c.args.outcomes.now (outcome_size * c.args.i + k) 0) =
+    each_from_fn _ _ _ _ (λ i r f' h call. search rules) _ c.from_fn-outcome.ensures.items in
+    rw (good_array c.args.outcomes.now c.args.i c.from_fn-outcome.result c.from_fn-outcome.ensures.items.long its c.if-outcome-eq-BAD.false)
+    (puts_then (puts_number (omega arith) c.number-a.ensures) c.fields.ensures)

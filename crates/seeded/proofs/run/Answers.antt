@@ -1,4 +1,4 @@
--- `run` meets its contract. The loop's invariant: b bits are rehearsed, and the state is the one that they leave.
+-- `run` meets its contract.
 use borrow.Author.Rules.{rules}
 use native.Mathlib.Omega.{arith}
 use Prim.Native.Nat.{◌-◌, ◌≤◌}
@@ -8,28 +8,20 @@ use Rattle.seeded.specs.Loops.{BitsRun}
 use Rattle.seeded.proofs.BitLaws.{bits_end}
 use Rattle.seeded.proofs.run.Goals as goal
 
-pub loop-b-init : goal.loop-b-init
-loop-b-init c =
-    (omega arith, c.requires)
-
 pub next_bit-state-requires : goal.next_bit-state-requires
 next_bit-state-requires c =
-    (c.loop-b.invariant.1, omega (arith, c.loop-b-test.true, c.bits-bits.ensures))
-
-pub loop-b-preserved : goal.loop-b-preserved
-loop-b-preserved c =
-    (omega (arith, c.loop-b-test.true), c.next_bit-state.ensures)
+    (c.loop-b.invariant, omega (arith, c.loop-b-test.true, c.bits-bits.ensures))
 
 pub shape_of-table : goal.shape_of-table
-shape_of-table c = c.loop-b.invariant.1.table_whole ∙ sym c.requires.table_whole
+shape_of-table c = c.loop-b.invariant.table_whole ∙ sym c.requires.table_whole
 
 pub shape_of-log : goal.shape_of-log
-shape_of-log c = c.loop-b.invariant.1.in_turn.log_whole ∙ sym c.requires.in_turn.log_whole
+shape_of-log c = c.loop-b.invariant.in_turn.log_whole ∙ sym c.requires.in_turn.log_whole
 
 pub shape_of-outcomes : goal.shape_of-outcomes
-shape_of-outcomes c = c.loop-b.invariant.1.in_turn.outcomes_whole ∙ sym c.requires.in_turn.outcomes_whole
+shape_of-outcomes c = c.loop-b.invariant.in_turn.outcomes_whole ∙ sym c.requires.in_turn.outcomes_whole
 
 pub returns : goal.returns
 returns c =
-    let e : c.loop-b.b ≡ bits c.args.header.w = omega (arith, c.loop-b-test, c.loop-b.invariant.0, c.bits-bits.ensures) in
-    bits_end _ _ _ _ _ _ (rw e at c.loop-b.invariant.1)
+    let e : c.loop-b.b ≡ bits c.args.header.w = omega (arith, c.bits-bits.ensures) in
+    bits_end _ _ _ _ _ _ (rw e at c.loop-b.invariant)
