@@ -18,7 +18,7 @@ module _ (s : Station) (row : List ℕ) (offer : ℕ) {f : Offer} (g : f ≡ off
   by_acceptance : {r : Result Station Cause} → Accepts s row f r → AcceptsLent s row offer (left s r) (code r)
   unfolding accepted_or_same
   by_acceptance p =
-      rw (← g)
+      rw g
       (record { answer_is = code_by (accepting_verdict s row f) _ p.answer; station_is = left_by s _ (accepting_verdict s row f) p.answer })
 
   pub accepted_next : {r : Result Station Cause} {next : Station} → Accepts s row f r → r ≡ Ok next → AcceptsLent s row offer next 0
