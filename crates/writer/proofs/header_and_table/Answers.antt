@@ -1,5 +1,4 @@
 -- `header_and_table` meets its contract: the header's length comes first.
-use borrow.Author.Rules.{rules}
 use borrow.Author.Tests.{eq-eqb, ne_eqb}
 use Rattle.refusal.specs.Cause.{refused_if}
 use Rattle.judgement.specs.Judgement.{header_length}

@@ -1,5 +1,4 @@
 -- `needed` meets its contract: causes 1 to 8 come first.
-use borrow.Author.Rules.{rules}
 use mathlib.Core.Path.{sym, ◌∙◌}
 use Rattle.writer.proofs.PromiseLaws.{needs_refused}
 use Rattle.writer.proofs.needed.Goals as goal

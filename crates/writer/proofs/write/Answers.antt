@@ -1,5 +1,4 @@
 -- `write` meets its contract: what is needed is asked first.
-use borrow.Author.Rules.{rules}
 use Rattle.writer.proofs.PromiseLaws.{writes_refused}
 use Rattle.writer.proofs.write.Goals as goal
 
