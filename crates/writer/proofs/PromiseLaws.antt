@@ -186,11 +186,11 @@ module _ (h table : List ℕ) where
         short = taken_short h (length table) told_both.0;
         narrow = (taken_sound h (length table) told_both.0).narrow;
         whole = taken_length h (length table) told_both.0;
-        all = told_records;
         most = omega (arith, told_records, told_few);
-        room = omega (arith, e, told_bytes l n);
+        size = omega (arith, told_records, e, told_bytes l n);
         before = sym (count_zero (to_write (header h).line.n (header h).marks table));
       };
+      all = told_records;
     }
 
     -- all of it is written
@@ -213,7 +213,8 @@ module _ (h table : List ℕ) where
 
   -- as the parts are put one after the other
   pub sheet_put : (s₀ s₁ s₂ : List ℕ) (k : ℕ) (g : Header) → Unrefused h table s₀ k → g ≡ header h → s₁ ≡ header_in s₀ h k
-      → Goes_on g table k s₁ 0 s₂ k → s₂ ≡ sheet h table
+      → Goes_on g table s₁ 0 s₂ k → s₂ ≡ sheet h table
   sheet_put s₀ s₁ s₂ k g u e a b =
-      b s₁ (records_none g table k s₁)
-      ∙ rw (e, a, header_there s₀ h k u.twelve (omega (arith, u.ready.room))) (sheet_laid s₀ k u.ready.all u.ready.room)
+      let size : length s₀ ≡ 12 + 8 * k = omega (arith, u.ready.size, u.all) in
+      b s₁ (records_none g table (how_many g table) s₁)
+      ∙ rw (e, a, header_there s₀ h k u.twelve (omega (arith, size)), ← u.all) (sheet_laid s₀ k u.all size)

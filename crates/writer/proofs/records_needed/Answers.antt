@@ -1,5 +1,4 @@
 -- `records_needed` meets its contract, by how many records there are.
-use borrow.Author.Rules.{rules}
 use mathlib.Core.Path.{◌∙◌}
 use Rattle.writer.proofs.PromiseLaws.{taken_counted, needs_fewer, needs_bytes}
 use Rattle.writer.proofs.records_needed.Goals as goal

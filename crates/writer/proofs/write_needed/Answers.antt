@@ -1,5 +1,4 @@
 -- `write_needed` meets its contract: the buffer's length is judged, then the sheet put.
-use borrow.Author.Rules.{rules}
 use native.Mathlib.Omega.{arith}
 use Rattle.writer.proofs.PromiseLaws.{told_long, writes_length, unrefused, writes_sheet}
 use Rattle.writer.proofs.write_needed.Goals as goal

@@ -1,5 +1,4 @@
 -- `put::next_index` meets its contract.
-use borrow.Author.Rules.{rules}
 use borrow.Author.Tests.{eq-eqb, ne_eqb}
 use Rattle.writer.proofs.put.next_index.Goals as goal
 
