@@ -8,6 +8,7 @@ ghost use Rattle.recipe.specs.Promise.{number_run_of};
 ghost use Rattle.checker.specs.Promise.{logged};
 ghost use Rattle.exports.specs.Numbers.{ReadNumber, ReadBitNumber, NeedsWord, WritesWord, GeneratesNumber, RehearsedNumber, ExchangedNumber, ChecksWord};
 
+use header::Header;
 use line::Line;
 use refusal::cause;
 
@@ -70,11 +71,13 @@ pub extern "C" fn vembopu_rehearse(
     ensures { RehearsedNumber (number_run_of n t upper sender value w marks table.now) log.old log.new outcomes.old outcomes.new result }
 {
     let verdict = recipe::rehearse(
-        Line { n, t, upper },
-        sender,
-        value,
-        w,
-        marks,
+        Header {
+            line: Line { n, t, upper },
+            sender,
+            value,
+            w,
+            marks,
+        },
         table,
         log,
         outcomes,

@@ -19,7 +19,7 @@ use Rattle.line.proofs.CountLaws.{if_true, if_false, count_same}
 use Rattle.line.proofs.LineLaws.{next_row, row_within, place_below}
 use Rattle.line.proofs.WidthLaws.{part_at, part_size}
 use Rattle.broadcast.proofs.BytesLaws.{length_tabulate, get_d_tabulate}
-use Rattle.layout.specs.declared.Header.{Header}
+use Rattle.header.specs.declared.Header.{Header}
 use Rattle.selection.specs.Places.{from_at}
 use Rattle.selection.proofs.CountingLaws.{count_on}
 use Rattle.selection.proofs.PlaceLaws.{from_told}

@@ -7,7 +7,7 @@ use Rattle.line.specs.Marks.{marked}
 use Rattle.line.specs.Width.{tables_length}
 use Rattle.line.specs.Ballot.{silence}
 use Rattle.broadcast.specs.Bytes.{tabulate}
-use Rattle.layout.specs.declared.Header.{Header}
+use Rattle.header.specs.declared.Header.{Header}
 use Rattle.selection.specs.Places.{from_at}
 use Rattle.xorshift.specs.State.{state_after}
 

@@ -3,7 +3,7 @@ use Rattle.std.specs.Prelude.{ℕ, suc, ◌+◌, ◌*◌, ◌≤◌, ◌<◌, �
 use Rattle.line.specs.Line.{rounds, table_length, place}
 use Rattle.line.specs.Width.{bits, tables_length, part_of}
 use Rattle.line.specs.Marks.{marked}
-use Rattle.layout.specs.declared.Header.{Header}
+use Rattle.header.specs.declared.Header.{Header}
 use Rattle.selection.specs.Places.{from_at}
 use Rattle.xorshift.specs.State.{state_after}
 use Rattle.generator.specs.Tables.{ballot, steps_before, noise, generated, bit_state}

@@ -11,6 +11,17 @@ use line::{Line, width};
 use refusal::cause;
 use refusal::cause::{Cause, Verdict};
 
+// The numbers of a run sheet's header, and of a call without a sheet: the line, the sender, the number that it sends, of w bits, and the marks. Any bytes at
+// all may stand in it: number_verdict judges them, and header_verdict those of one broadcast, whose value is a bit and which has no w.
+#[derive(Clone, Copy)]
+pub struct Header {
+    pub line: Line,
+    pub sender: u8,
+    pub value: u8,
+    pub w: u8,
+    pub marks: u32,
+}
+
 // Below low or above high.
 #[tactic(auto, unfolding(crate::specs::Header::outside))]
 pub fn outside(low: u8, high: u8, x: u8) -> bool
@@ -86,13 +97,13 @@ pub fn line_verdict(line: Line) -> Verdict
 
 // Causes 2 to 6.
 #[tactic(auto, using(refusal::proofs::VerdictLaws::judged), unfolding(crate::specs::Header::header_verdict))]
-pub fn header_verdict(line: Line, sender: u8, value: u8, marks: u32) -> Verdict
-    ensures { Judged (header_verdict line.n line.t line.upper sender value marks) result }
+pub fn header_verdict(header: Header) -> Verdict
+    ensures { Judged (header_verdict header.line.n header.line.t header.line.upper header.sender header.value header.marks) result }
 {
-    line_verdict(line)?;
-    station_number(line.n, sender)?;
-    bit(value)?;
-    marks_within(line.n, marks)
+    line_verdict(header.line)?;
+    station_number(header.line.n, header.sender)?;
+    bit(header.value)?;
+    marks_within(header.line.n, header.marks)
 }
 
 // Cause 15.
@@ -119,12 +130,12 @@ fn number_within(w: u8, number: u8) -> Verdict
 
 // Cause 15, then 2 to 6, of a recipe number of w bits.
 #[tactic(auto, using(refusal::proofs::VerdictLaws::judged), unfolding(crate::specs::Header::number_verdict))]
-pub fn number_verdict(line: Line, sender: u8, number: u8, w: u8, marks: u32) -> Verdict
-    ensures { Judged (number_verdict line.n line.t line.upper sender number w marks) result }
+pub fn number_verdict(header: Header) -> Verdict
+    ensures { Judged (number_verdict header.line.n header.line.t header.line.upper header.sender header.value header.w header.marks) result }
 {
-    width(w)?;
-    line_verdict(line)?;
-    station_number(line.n, sender)?;
-    number_within(w, number)?;
-    marks_within(line.n, marks)
+    width(header.w)?;
+    line_verdict(header.line)?;
+    station_number(header.line.n, header.sender)?;
+    number_within(header.w, header.value)?;
+    marks_within(header.line.n, header.marks)
 }

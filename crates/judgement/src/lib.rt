@@ -27,7 +27,7 @@ pub fn to_6(sheet: &[u8]) -> Verdict
 {
     cause::refused_if(ill_formed(sheet), Cause::SheetForm)?;
     let h = layout::header_of(sheet);
-    header::number_verdict(h.line, h.sender, h.value, h.w, h.marks)
+    header::number_verdict(h)
 }
 
 // Causes 1, 15 and 2 to 8, with a buffer for all bits' tables.

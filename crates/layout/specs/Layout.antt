@@ -3,7 +3,7 @@
 use Rattle.std.specs.Prelude.{ℕ, ◌+◌, ◌-◌, ◌*◌, ◌/◌, List, length, get_or}
 use Rattle.line.specs.Line.{table_length}
 use Rattle.line.specs.Width.{tables_length}
-use Rattle.layout.specs.declared.Header.{Header}
+use Rattle.header.specs.declared.Header.{Header}
 
 unfoldable pub byte : List ℕ → ℕ → ℕ
 byte s i = get_or s i 0

@@ -6,6 +6,7 @@ ghost use Rattle.layout.specs.Layout.{most_records, longest_sheet, header, table
 ghost use Rattle.layout.specs.Chain.{is_record};
 ghost use Rattle.layout.specs.Numbers.{numbers_from, record_at};
 
+use header::Header;
 use line::Line;
 
 // The most records of a sheet, and the bytes of a sheet with so many.
@@ -17,16 +18,6 @@ pub const LONGEST_SHEET: usize = 12 + 8 * RECORDS;
 fn constants_agree()
     ensures { (RECORDS ≡ most_records) × (LONGEST_SHEET ≡ longest_sheet) }
 {}
-
-// The numbers of a sheet's header. `value` is the number that the sender sends, of w bits.
-#[derive(Clone, Copy)]
-pub struct Header {
-    pub line: Line,
-    pub sender: u8,
-    pub value: u8,
-    pub w: u8,
-    pub marks: u32,
-}
 
 // The numbers of a record. `rest` is its last byte.
 #[derive(Clone, Copy, Default)]

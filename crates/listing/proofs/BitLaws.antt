@@ -14,7 +14,7 @@ use Rattle.line.proofs.WidthLaws.{bits_some, part_size}
 use Rattle.refusal.proofs.VerdictLaws.{both_accepted}
 use Rattle.number.specs.Numbers.{NumberRun, bit_run}
 use Rattle.recipe.proofs.RunLaws.{none_in_turn, one_more_in_turn}
-use Rattle.layout.specs.declared.Header.{Header}
+use Rattle.header.specs.declared.Header.{Header}
 use Rattle.layout.specs.Layout.{header, table_wanted, tables_wanted}
 use Rattle.layout.specs.Chain.{Fate}
 use Rattle.judgement.specs.Judgement.{verdict_to_8, bit_to_8, chain_verdict, sheet_verdict, bit_verdict}

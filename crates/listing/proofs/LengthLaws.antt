@@ -24,7 +24,7 @@ use Rattle.broadcast.proofs.TallyLaws.{flag_bit}
 use Rattle.number.specs.Numbers.{NumberRun, number_outcomes}
 use Rattle.number.specs.Theorems.{NumberOutcomeBytes}
 use Rattle.number.proofs.Theorems.{number_outcome_bytes, none_marked_none_garbled}
-use Rattle.layout.specs.declared.Header.{Header}
+use Rattle.header.specs.declared.Header.{Header}
 use Rattle.layout.specs.Layout.{header}
 use Rattle.layout.specs.Chain.{Fate}
 use Rattle.judgement.specs.Judgement.{bit_to_8, chain_verdict, bit_verdict}

@@ -15,7 +15,7 @@ use Rattle.refusal.specs.declared.cause.Cause.{Cause}
 use Rattle.refusal.specs.Cause.{Verdict}
 use Rattle.broadcast.specs.Bytes.{log}
 use Rattle.number.specs.Numbers.{bit_run, number_outcomes}
-use Rattle.layout.specs.declared.Header.{Header}
+use Rattle.header.specs.declared.Header.{Header}
 use Rattle.layout.specs.Layout.{header, table_wanted}
 use Rattle.reader.specs.Reading.{table_of, bit_table, ReadsBit}
 use Rattle.text.specs.Laid.{laid, Puts}

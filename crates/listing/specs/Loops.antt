@@ -8,7 +8,7 @@ use Rattle.number.specs.Numbers.{bit_run}
 use Rattle.rehearsal.specs.Promise.{run_of}
 use Rattle.recipe.specs.Promise.{RehearsedBit}
 use Rattle.recipe.specs.Loops.{InTurn}
-use Rattle.layout.specs.declared.Header.{Header}
+use Rattle.header.specs.declared.Header.{Header}
 use Rattle.layout.specs.Layout.{header, table_wanted}
 use Rattle.layout.specs.Chain.{Fate}
 use Rattle.reader.specs.Reading.{table_of, bit_table}

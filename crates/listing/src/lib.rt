@@ -6,23 +6,14 @@ ghost use Rattle.line.specs.Width.{bits};
 ghost use Rattle.listing.specs.Promise.{Lists};
 ghost use Rattle.listing.specs.Loops.{BitRehearsed, BitsRun, Begun, ListsRun, ListsWhole};
 
-use layout::Header;
+use header::Header;
 use line::{Line, width};
 
 // Rehearses bit b of what was read, whose table is there, and gathers its outcomes with those of the bits below it.
 fn rehearse_bit(header: Header, b: u8, table: &[u8], log: &mut [u8], outcomes: &mut [u8])
     ensures { BitRehearsed header b table.now log.old log.new outcomes.old outcomes.new }
 {
-    let _ = recipe::bit(
-        header.line,
-        header.sender,
-        header.value,
-        b,
-        header.marks,
-        table,
-        log,
-        outcomes,
-    );
+    let _ = recipe::bit(header, b, table, log, outcomes);
 }
 
 // Bit b of an accepted sheet: its table takes the place of the one before.

@@ -9,7 +9,7 @@ use lib.ListN.{length}
 use Rattle.line.proofs.WidthLaws.{bits_some}
 use Rattle.refusal.specs.declared.cause.Cause.{Cause}
 use Rattle.refusal.specs.Cause.{Verdict, no_cause, answered}
-use Rattle.layout.specs.declared.Header.{Header}
+use Rattle.header.specs.declared.Header.{Header}
 use Rattle.layout.specs.Layout.{header, table_wanted, tables_wanted}
 use Rattle.layout.specs.Chain.{Fate}
 use Rattle.judgement.specs.Judgement.{verdict_to_6, verdict_to_8, bit_to_8, sheet_verdict, bit_verdict}

@@ -6,7 +6,7 @@ use Rattle.refusal.specs.Cause.{number}
 use Rattle.refusal.specs.Cause.{Verdict}
 use Rattle.broadcast.specs.Theorems.{value_at, grade_at, flag_at, garbled_at}
 use Rattle.number.specs.Numbers.{NumberRun, number_outcomes}
-use Rattle.layout.specs.declared.Header.{Header}
+use Rattle.header.specs.declared.Header.{Header}
 use Rattle.layout.specs.Layout.{header, tables_wanted}
 use Rattle.layout.specs.Chain.{Fate}
 use Rattle.judgement.specs.Judgement.{sheet_verdict}

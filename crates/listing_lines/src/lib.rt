@@ -7,7 +7,7 @@ ghost use Rattle.text.specs.Laid.{Puts};
 ghost use Rattle.listing_lines.specs.Lines.{num, dash, refused, first_line, station_line, station_lines, lines_by};
 ghost use Rattle.listing_lines.specs.Text.{more_text, line_text, text};
 
-use layout::Header;
+use header::Header;
 use line::Line;
 use std::array;
 

@@ -7,7 +7,7 @@ use native.Mathlib.Nat.{add-zero, eq-or-lt_of_le, le_of_suc-le-suc}
 use native.Mathlib.Omega.{arith}
 use lib.ListN.{length, get_or, length-append, get_or-append}
 use lib.Seq.{get_or-append-add}
-use Rattle.layout.specs.declared.Header.{Header}
+use Rattle.header.specs.declared.Header.{Header}
 use Rattle.layout.specs.Layout.{byte, two, header, first, records, start, round, from, to, ballot, next, bit, rest}
 use Rattle.judgement.proofs.FormLaws as form
 use Rattle.selection.specs.Places.{bit_at, round_at, from_at, to_at, how_many, place_written}

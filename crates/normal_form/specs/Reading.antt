@@ -3,7 +3,7 @@ use Rattle.std.specs.Prelude.{ℕ, ◌<◌, ◌≡◌, List, length, get_or, if�
 use Rattle.refusal.specs.Cause.{no_cause}
 use Rattle.line.specs.Marks.{marked}
 use Rattle.line.specs.Ballot.{silence}
-use Rattle.layout.specs.declared.Header.{Header}
+use Rattle.header.specs.declared.Header.{Header}
 use Rattle.layout.specs.Layout.{header, records}
 use Rattle.layout.specs.Chain.{Ends, Fate}
 use Rattle.judgement.specs.Judgement.{sheet_verdict}

@@ -18,13 +18,13 @@ use Rattle.refusal.specs.Cause.{◌or_else◌, code, written, given, no_cause, a
 use Rattle.header.specs.Header.{exact_length}
 use Rattle.refusal.specs.declared.cause.Cause.{Cause}
 use Rattle.refusal.specs.Cause.{Verdict}
-use Rattle.refusal.proofs.VerdictLaws.{refused_false, accepted_false, both_accepted}
+use Rattle.refusal.proofs.VerdictLaws.{code_by, values_by, refused_false, accepted_false, both_accepted}
 use Rattle.header.proofs.HeaderLaws.{number_sound, length_exact, length_accepts}
-use Rattle.layout.specs.declared.Header.{Header}
+use Rattle.header.specs.declared.Header.{Header}
 use Rattle.layout.specs.Layout.{header, table_wanted, tables_wanted, most_records, records}
 use Rattle.layout.specs.Chain.{Fate, leaves, again, ends}
 use Rattle.judgement.specs.Judgement.{sheet_form, verdict_to_6, verdict_to_8, bit_there, bit_to_8, chain_verdict, sheet_verdict, bit_verdict}
-use Rattle.reader.specs.Reading.{table_of, bit_table, numbers_of, reading_values, Reads, ReadsBit}
+use Rattle.reader.specs.Reading.{table_of, bit_table, numbers_of, Reads, ReadsBit}
 use Rattle.reader.specs.Loops.{SoundHeader, none, Opened, ReadsPart, Kept, Whole, laid}
 use Rattle.reader.specs.declared.fill.Placed.{Placed}
 use Rattle.judgement.proofs.FormLaws.{form_sound}
@@ -97,24 +97,14 @@ module _ (s : List ℕ) where
 
   -- ---- the promise
 
-  -- the number is the verdict's
-  number_by : (v : Verdict) (h : Header) → code (answered v h) ≡ code v
-  number_by (Ok _) h = refl
-  number_by (Err c) h = refl
-
-  -- and so are the values
-  values_by : (v : Verdict) (h : Header) → reading_values (answered v h) ≡ given v (numbers_of h)
-  values_by (Ok _) h = refl
-  values_by (Err c) h = refl
-
   -- by the verdict of a fate
   promised : (table₀ table₁ : List ℕ) (answer : Result Header Cause) (f : Fate s) (v : Verdict) → sheet_verdict s (length table₀) f ≡ v
       → answer ≡ answered v (header s) → table₁ ≡ written v (table_of s f) table₀ → Reads s table₀ table₁ answer
   promised table₀ table₁ answer f v e a t = record {
     fate = f;
     answer_is = rw e a;
-    number_is = rw (e, a) (number_by v (header s));
-    values_are = rw (e, a) (values_by v (header s));
+    number_is = rw e (code_by v _ a);
+    values_are = rw e (values_by numbers_of v _ a);
     table_is = rw e t;
   }
 
@@ -123,8 +113,8 @@ module _ (s : List ℕ) where
   promised_bit b table₀ table₁ answer f v e a t = record {
     fate = f;
     answer_is = rw e a;
-    number_is = rw (e, a) (number_by v (header s));
-    values_are = rw (e, a) (values_by v (header s));
+    number_is = rw e (code_by v _ a);
+    values_are = rw e (values_by numbers_of v _ a);
     table_is = rw e t;
   }
 

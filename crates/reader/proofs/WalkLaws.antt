@@ -18,7 +18,7 @@ use Rattle.std.specs.Prelude.{if◌then◌else◌}
 use Rattle.line.specs.Line.{rounds}
 use Rattle.line.specs.Width.{bits, largest_tables}
 use Rattle.line.proofs.WidthLaws.{tables_bound}
-use Rattle.layout.specs.declared.Header.{Header}
+use Rattle.header.specs.declared.Header.{Header}
 use Rattle.line.proofs.LineLaws.{place_below}
 use Rattle.line.proofs.CountLaws.{le_or_lt}
 use Rattle.refusal.specs.Cause.{◌or_else◌, no_cause}

@@ -13,7 +13,7 @@ use Rattle.header.specs.Header.{SoundNumber}
 use Rattle.refusal.specs.declared.cause.Cause.{Cause}
 use Rattle.refusal.specs.declared.cause.Cause.TheVariants.{ChainLeaves, ChainRepeats, Duplicate}
 use Rattle.refusal.specs.Cause.{Verdict}
-use Rattle.layout.specs.declared.Header.{Header}
+use Rattle.header.specs.declared.Header.{Header}
 use Rattle.layout.specs.declared.Record.{Record}
 use Rattle.layout.specs.Layout.{header, tables_wanted, records, most_records, ballot}
 use Rattle.layout.specs.Chain as Chain

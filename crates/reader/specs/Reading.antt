@@ -8,7 +8,7 @@ use Rattle.line.specs.Width.{part_of}
 use Rattle.line.specs.Ballot.{silence}
 use Rattle.refusal.specs.Cause.{number, code, written, given, values, answered}
 use Rattle.refusal.specs.Cause.{Verdict}
-use Rattle.layout.specs.declared.Header.{Header}
+use Rattle.header.specs.declared.Header.{Header}
 use Rattle.layout.specs.Layout.{header, table_wanted, tables_wanted, round, from, to, ballot, bit}
 use Rattle.layout.specs.Chain.{reached, Fate, leaves, again, ends}
 use Rattle.judgement.specs.Judgement.{sheet_verdict, bit_verdict}

@@ -6,7 +6,7 @@ ghost use Rattle.reader.specs.Reading.{Reads, ReadsBit};
 ghost use Rattle.reader.specs.Loops.{Opened, ReadsPart};
 
 use crate::fill::Placed;
-use layout::Header;
+use header::Header;
 use refusal::cause::Cause;
 
 mod fate;

@@ -5,7 +5,8 @@ ghost use Rattle.reader.specs.Loops.{SoundHeader, Taken, Told, Walkable, place_b
 use crate::fate::Walked;
 use crate::fill::Placed;
 use crate::{fate, seen};
-use layout::{Header, Record};
+use header::Header;
+use layout::Record;
 use line::{Line, width};
 use refusal::cause::Verdict;
 

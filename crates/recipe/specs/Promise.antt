@@ -6,6 +6,7 @@ use Rattle.line.specs.Width.{bits, tables_length, part_of}
 use Rattle.refusal.specs.Cause.{Judged, ◌or_else◌, written, no_cause}
 use Rattle.refusal.specs.Cause.{Verdict}
 use Rattle.header.specs.Header.{number_verdict, exact_length}
+use Rattle.header.specs.declared.Header.{Header}
 use Rattle.broadcast.specs.Bytes.{Run, log, outcomes}
 use Rattle.broadcast.specs.Guarantees.{TwoThreshold}
 use Rattle.broadcast.specs.Theorems.{value_at, flag_at}
@@ -30,6 +31,10 @@ pub record RehearsedBit (b : ℕ) (R : Run) (log₀ log₁ outcomes₀ outcomes�
 abbrev pub number_run_of : ℕ → ℕ → ℕ → ℕ → ℕ → ℕ → ℕ → List ℕ → NumberRun
 number_run_of n t T sender number w marks tables =
     record { n = n; t = t; T = T; sender = sender; number = number; w = w; marks = marks; tables = tables }
+
+-- the same of a header's numbers
+abbrev pub number_run_with : Header → List ℕ → NumberRun
+number_run_with h tables = number_run_of h.line.n h.line.t h.line.upper h.sender h.value h.w h.marks tables
 
 -- 15, "first in a call without a sheet", then 2 to 6, then 8 for the tables, the logs and the outcomes, each by its length
 unfoldable pub number_rehearsal_verdict : ℕ → ℕ → ℕ → ℕ → ℕ → ℕ → ℕ → ℕ → ℕ → ℕ → Verdict

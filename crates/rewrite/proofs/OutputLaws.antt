@@ -14,7 +14,7 @@ use Rattle.line.proofs.WidthLaws.{tables_bound}
 use Rattle.refusal.specs.declared.cause.Cause.{Cause}
 use Rattle.refusal.proofs.VerdictLaws.{both_accepted}
 use Rattle.header.proofs.HeaderLaws.{length_accepts}
-use Rattle.layout.specs.declared.Header.{Header}
+use Rattle.header.specs.declared.Header.{Header}
 use Rattle.layout.specs.Layout.{header, tables_wanted}
 use Rattle.judgement.specs.Judgement.{verdict_to_8, chain_verdict, sheet_verdict}
 use Rattle.reader.specs.Reading.{table_of, Reads}

@@ -15,7 +15,7 @@ use Rattle.rehearsal.specs.Promise.{run_of}
 use Rattle.recipe.specs.Promise.{RehearsedBit}
 use Rattle.recipe.specs.Loops.{InTurn}
 use Rattle.recipe.proofs.RunLaws.{none_in_turn, one_more_in_turn}
-use Rattle.layout.specs.declared.Header.{Header}
+use Rattle.header.specs.declared.Header.{Header}
 use Rattle.reader.specs.Loops.{SoundHeader}
 use Rattle.listing_lines.specs.Lines.{run}
 use Rattle.generator.specs.Tables.{generated, bit_state}

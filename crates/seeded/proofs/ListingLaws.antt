@@ -4,7 +4,7 @@ use mathlib.Core.List.{List}
 use native.Mathlib.Omega.{arith}
 use native.Mathlib.Nat.{mul-suc}
 use lib.ListN.{length, length-append}
-use Rattle.layout.specs.declared.Header.{Header}
+use Rattle.header.specs.declared.Header.{Header}
 use Rattle.reader.specs.Loops.{SoundHeader}
 use Rattle.text.specs.Laid.{Puts}
 use Rattle.text.proofs.LaidLaws.{puts_then}

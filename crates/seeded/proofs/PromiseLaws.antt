@@ -10,7 +10,7 @@ use Rattle.refusal.specs.Cause.{Verdict, no_cause}
 use Rattle.refusal.proofs.VerdictLaws.{judged, never, both_accepted}
 use Rattle.header.proofs.HeaderLaws.{number_sound, number_verdict_accepts, length_exact, length_accepts}
 use Rattle.number.proofs.Theorems.{demand_3_of_numbers}
-use Rattle.layout.specs.declared.Header.{Header}
+use Rattle.header.specs.declared.Header.{Header}
 use Rattle.reader.specs.Loops.{SoundHeader}
 use Rattle.generator.specs.Tables.{generated}
 use Rattle.generator.specs.Judgement.{seed_some}

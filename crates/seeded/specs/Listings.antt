@@ -2,7 +2,7 @@
 use Rattle.std.specs.Prelude.{ℕ, zero, suc, List, [], ◌++◌}
 use Rattle.refusal.specs.Cause.{no_cause}
 use Rattle.number.specs.Numbers.{number_outcomes}
-use Rattle.layout.specs.declared.Header.{Header}
+use Rattle.header.specs.declared.Header.{Header}
 use Rattle.layout.specs.Layout.{header}
 use Rattle.listing_lines.specs.Lines.{Field, lines_by}
 use Rattle.listing_lines.specs.Text.{text}

@@ -4,7 +4,7 @@ use Rattle.line.specs.Line.{table_length}
 use Rattle.line.specs.Width.{part_of}
 use Rattle.number.specs.Numbers.{number_outcomes}
 use Rattle.recipe.specs.Loops.{InTurn}
-use Rattle.layout.specs.declared.Header.{Header}
+use Rattle.header.specs.declared.Header.{Header}
 use Rattle.reader.specs.Loops.{SoundHeader}
 use Rattle.generator.specs.Tables.{generated, bit_state}
 use Rattle.seeded.specs.Promise.{seed_run, last_table, last_log}

@@ -10,7 +10,7 @@ use Rattle.broadcast.specs.Bytes.{log}
 use Rattle.broadcast.specs.Guarantees.{TwoThreshold}
 use Rattle.broadcast.specs.Theorems.{value_at, flag_at}
 use Rattle.number.specs.Numbers.{NumberRun, bit_run, number_outcomes}
-use Rattle.layout.specs.declared.Header.{Header}
+use Rattle.header.specs.declared.Header.{Header}
 use Rattle.generator.specs.Tables.{generated}
 use Rattle.generator.specs.Judgement.{seed_some}
 use Rattle.listing_lines.specs.Lines.{run}

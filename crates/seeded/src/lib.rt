@@ -6,7 +6,7 @@ ghost use Rattle.line.specs.Width.{bits};
 ghost use Rattle.seeded.specs.Promise.{seed_verdict, RehearsedSeed};
 ghost use Rattle.seeded.specs.Loops.{BitsRun, Ran};
 
-use layout::Header;
+use header::Header;
 use line::{Line, width};
 use refusal::cause;
 use refusal::cause::{Cause, Verdict};
@@ -22,13 +22,7 @@ fn judge(
 ) -> Verdict
     ensures { result ≡ seed_verdict header seed table_len log_len outcomes_len }
 {
-    header::number_verdict(
-        header.line,
-        header.sender,
-        header.value,
-        header.w,
-        header.marks,
-    )?;
+    header::number_verdict(header)?;
     cause::refused_if(seed == 0, Cause::Seed)?;
     header::exact_length(header.line.table_len(), table_len)?;
     header::exact_length(header.line.table_len(), log_len)?;
@@ -49,16 +43,7 @@ fn next_bit(
     ensures { BitsRun header seed (b + 1) result table.new log.new outcomes.new }
 {
     let left = generator::fill(header.line.n, header.marks, state, table);
-    let _ = recipe::bit(
-        header.line,
-        header.sender,
-        header.value,
-        b,
-        header.marks,
-        table,
-        log,
-        outcomes,
-    );
+    let _ = recipe::bit(header, b, table, log, outcomes);
     left
 }
 

@@ -12,7 +12,7 @@ use Rattle.line.specs.Line.{largest_table, outcomes_length}
 use Rattle.line.proofs.LineLaws.{table_bound}
 use Rattle.refusal.specs.declared.cause.Cause.{Cause}
 use Rattle.refusal.proofs.VerdictLaws.{both_accepted}
-use Rattle.layout.specs.declared.Header.{Header}
+use Rattle.header.specs.declared.Header.{Header}
 use Rattle.layout.specs.Layout.{header, table_wanted}
 use Rattle.judgement.specs.Judgement.{bit_to_8, chain_verdict, bit_verdict}
 use Rattle.reader.specs.Reading.{ReadsBit}

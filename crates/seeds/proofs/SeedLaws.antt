@@ -10,7 +10,7 @@ use Rattle.refusal.specs.declared.cause.Cause.TheVariants.{Seed}
 use Rattle.refusal.specs.Cause.{Verdict, no_cause}
 use Rattle.refusal.proofs.VerdictLaws.{refused_false}
 use Rattle.number.specs.Numbers.{number_outcomes}
-use Rattle.layout.specs.declared.Header.{Header}
+use Rattle.header.specs.declared.Header.{Header}
 use Rattle.text.specs.Laid.{Puts}
 use Rattle.listing_lines.specs.Lines.{lines_by}
 use Rattle.listing_lines.specs.Text.{text}

@@ -1,7 +1,7 @@
 -- What the program's private functions ask for, and how long the output can be.
 use Rattle.std.specs.Prelude.{ℕ, ◌*◌, ◌≤◌, ◌≡◌, List, length}
 use Rattle.line.specs.Line.{table_length, outcomes_length}
-use Rattle.layout.specs.declared.Header.{Header}
+use Rattle.header.specs.declared.Header.{Header}
 use Rattle.layout.specs.Layout.{header, table_wanted}
 use Rattle.reader.specs.Loops.{SoundHeader}
 use Rattle.listing.specs.Theorems.{longest_listing}

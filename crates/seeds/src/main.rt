@@ -11,7 +11,7 @@ ghost use Rattle.listing_lines.specs.Text.{text};
 ghost use Rattle.seeded.specs.Listings.{last_seed, seed_lines, listings, Printed};
 ghost use Rattle.seeds.specs.Loops.{Seed, Ready, Begun, longest_output};
 
-use layout::Header;
+use header::Header;
 use line::Line;
 use std::io;
 use std::io::{IsTerminal, Stderr};

@@ -21,7 +21,7 @@ use Rattle.line.proofs.MarksLaws.{marked_above}
 use Rattle.std.proofs.lemmas.List.{get_or-take, get_or-drop, get_or-append-add, length-take, length-drop}
 use Rattle.std.proofs.Math.Nat.{mul-add-div, add-mod_left, min-eq_left}
 use Rattle.line.proofs.LineLaws.{next_row, row_within, place_from_start, place_from}
-use Rattle.layout.specs.declared.Header.{Header}
+use Rattle.header.specs.declared.Header.{Header}
 use Rattle.selection.specs.Places.{from_at, to_write, how_many}
 use Rattle.selection.specs.Counted.{counted}
 use Rattle.selection.proofs.LeapLaws.{First}

@@ -11,7 +11,7 @@ use Rattle.line.specs.Count.{count}
 use Rattle.line.specs.Width.{tables_length}
 use Rattle.line.specs.Marks.{marked}
 use Rattle.line.specs.Ballot.{silence}
-use Rattle.layout.specs.declared.Header.{Header}
+use Rattle.header.specs.declared.Header.{Header}
 use Rattle.selection.specs.Places.{from_at, to_write, how_many, place_written}
 use Rattle.selection.specs.Theorems.{InOrder}
 use Rattle.selection.proofs.RankLaws.{Ranked, ranked_is, ranked_back, rank_less, less_rank}

@@ -2,7 +2,7 @@
 use Rattle.std.specs.Prelude.{ℕ, ◌&&◌, List, leb, eqb, length, if◌then◌else◌}
 use Rattle.line.specs.Line.{most_stations}
 use Rattle.line.specs.Width.{tables_length}
-use Rattle.layout.specs.declared.Header.{Header}
+use Rattle.header.specs.declared.Header.{Header}
 use Rattle.selection.specs.Places.{how_many}
 
 -- how many bytes are to be written, in a line of at most 32 stations and of tables of its length; otherwise none

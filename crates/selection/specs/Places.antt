@@ -6,7 +6,7 @@ use Rattle.line.specs.Line.{rounds}
 use Rattle.line.specs.Width.{tables_length}
 use Rattle.line.specs.Marks.{marked}
 use Rattle.line.specs.Ballot.{silence}
-use Rattle.layout.specs.declared.Header.{Header}
+use Rattle.header.specs.declared.Header.{Header}
 
 -- ---- the bit, round, sender and receiver whose byte stands at the place p (`PlaceTold` of Theorems.antt). The stations are counted from 0.
 

@@ -3,7 +3,7 @@ use Rattle.std.specs.Prelude.{ℕ, ◌+◌, ◌*◌, ◌≤◌, ◌<◌, ◌≡�
 use Rattle.line.specs.Count.{count}
 use Rattle.line.specs.Line.{rounds, table_length, place}
 use Rattle.line.specs.Width.{bits, tables_length}
-use Rattle.layout.specs.declared.Header.{Header}
+use Rattle.header.specs.declared.Header.{Header}
 use Rattle.selection.specs.Places.{bit_at, round_at, from_at, to_at, to_write, how_many, place_written}
 
 -- ---- the places

@@ -8,7 +8,7 @@ ghost use Rattle.selection.specs.Counted.{counted};
 ghost use Rattle.selection.specs.Loops.{Rounds, speaks};
 ghost use Rattle.selection.specs.Leaps.{Leaps};
 
-use layout::Header;
+use header::Header;
 use line::{Line, marks};
 
 // How many bytes of one sender in a round are not silence. The sum is a byte, so that many are added at once.

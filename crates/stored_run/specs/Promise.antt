@@ -1,6 +1,6 @@
 -- What a run promises of the table that it is lent: it is as the reader leaves it.
 use Rattle.std.specs.Prelude.{ℕ, List}
-use Rattle.layout.specs.declared.Header.{Header}
+use Rattle.header.specs.declared.Header.{Header}
 use Rattle.refusal.specs.declared.cause.Cause.{Cause}
 use Rattle.std.specs.declared.result.Result.{Result}
 use Rattle.reader.specs.Reading.{Reads}

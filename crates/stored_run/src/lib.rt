@@ -3,7 +3,7 @@
 
 ghost use Rattle.stored_run.specs.Promise.{Leaves};
 
-use layout::Header;
+use header::Header;
 use line::Line;
 use refusal::cause;
 
@@ -16,9 +16,7 @@ fn sevens() -> [u8; Line::LARGEST_TABLE] {
 
 // Rehearses what an accepted sheet says.
 fn decide(out: &impl Print, h: Header, table: &[u8], log: &mut [u8], outcomes: &mut [u8]) {
-    let verdict = recipe::rehearse(
-        h.line, h.sender, h.value, h.w, h.marks, table, log, outcomes,
-    );
+    let verdict = recipe::rehearse(h, table, log, outcomes);
     print::rehearsal(out, cause::code(verdict), log, outcomes);
 }
 

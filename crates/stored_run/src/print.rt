@@ -1,5 +1,5 @@
 // What is printed of a stored run, to standard output. What is printed no contract can say.
-use layout::Header;
+use header::Header;
 
 // The run's own number.
 pub(crate) fn name(out: &impl Print, k: u64) {

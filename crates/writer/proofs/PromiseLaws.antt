@@ -21,7 +21,7 @@ use Rattle.refusal.specs.Cause.{Verdict}
 use Rattle.refusal.proofs.VerdictLaws.{code_by, values_by, both_accepted, accepted_false, refused_true, refused_false}
 use Rattle.header.specs.Header.{exact_length}
 use Rattle.header.proofs.HeaderLaws.{length_accepts}
-use Rattle.layout.specs.declared.Header.{Header}
+use Rattle.header.specs.declared.Header.{Header}
 use Rattle.layout.specs.Layout.{header, most_records}
 use Rattle.judgement.specs.Judgement.{header_length, verdict_to_8}
 use Rattle.reader.specs.Loops.{SoundHeader}

@@ -21,7 +21,7 @@ use Rattle.line.proofs.LineLaws.{next_row, place_from_start, place_steps}
 use Rattle.line.proofs.WidthLaws.{bits_most, bit_place}
 use Rattle.text.specs.Laid.{laid}
 use Rattle.text.proofs.LaidLaws.{laid_append}
-use Rattle.layout.specs.declared.Header.{Header}
+use Rattle.header.specs.declared.Header.{Header}
 use Rattle.record.specs.Bytes.{eight}
 use Rattle.selection.specs.Places.{bit_at, round_at, from_at, to_at, to_write, how_many, place_written}
 use Rattle.writer.specs.declared.put.Turn.{Turn}

@@ -5,7 +5,7 @@ use Rattle.line.specs.Line.{rounds, table_length, place}
 use Rattle.line.specs.Width.{most_bits, bits, tables_length}
 use Rattle.line.specs.Ballot.{silence}
 use Rattle.text.specs.Laid.{laid}
-use Rattle.layout.specs.declared.Header.{Header}
+use Rattle.header.specs.declared.Header.{Header}
 use Rattle.layout.specs.Layout.{header}
 use Rattle.record.specs.Bytes.{eight}
 use Rattle.selection.specs.Places.{to_write, how_many}

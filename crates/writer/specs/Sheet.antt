@@ -1,7 +1,7 @@
 -- The written sheet (document 01, "The run sheet"; document 02, request 1): its header, handed in as the list of its bytes, then its records. Crate record has the bytes
 -- of each.
 use Rattle.std.specs.Prelude.{ℕ, zero, suc, ◌+◌, ◌*◌, List, [], ◌++◌, ltb, get_or, if◌then◌else◌}
-use Rattle.layout.specs.declared.Header.{Header}
+use Rattle.header.specs.declared.Header.{Header}
 use Rattle.layout.specs.Layout.{header}
 use Rattle.record.specs.Bytes.{header_bytes, eight}
 use Rattle.selection.specs.Places.{bit_at, round_at, from_at, to_at, how_many, place_written}

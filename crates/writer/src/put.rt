@@ -7,7 +7,7 @@ ghost use Rattle.selection.specs.Leaps.{Leaps};
 ghost use Rattle.selection.specs.Loops.{spoken};
 ghost use Rattle.writer.specs.Loops.{start_of, put_at, put_row_at, spoken_in, Room, Goes_on, Ready, OfRound, sheet_of, Unrefused};
 
-use layout::Header;
+use header::Header;
 use line::{Line, width};
 
 // A round of a bit's broadcast: the bit from 0 on, the round from 1 on.

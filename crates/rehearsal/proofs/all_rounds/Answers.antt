@@ -16,5 +16,5 @@ loop-r-preserved c =
 
 pub returns : goal.returns
 returns c =
-    let e : c.loop-r.r ≡ rounds c.args.line.t = omega arith in
+    let e : c.loop-r.r ≡ rounds c.args.header.line.t = omega arith in
     rw e at c.loop-r.invariant
