@@ -1,106 +1,121 @@
--- Laws of comparing: a sender's bytes all equal what is said where as many are equal as there are receivers. Assumes nothing.
-use Rattle.std.specs.Prelude.{if◌then◌else◌}
+-- Laws of comparing: a row is all one byte where its first 16 and its last 16 are. Assumes nothing.
 use Prim.Native.Nat.{ℕ, ◌+◌, ◌-◌, ◌*◌, ◌≤◌, ◌<◌}
 use mathlib.Core.Path.{◌≡◌, refl, sym, ◌∙◌}
-use mathlib.Core.Bool.{Bool, true, false, true≢false}
+use mathlib.Core.Bool.{Bool, true, false, ◌&&◌}
+use Rattle.std.proofs.lemmas.Bool.{false≢true}
 use mathlib.Core.Logic.{◌≢◌, ⊎_elim}
 use mathlib.Core.List.{List}
 use native.Mathlib.Omega.{arith}
 use lib.Dec.{eqb}
-use lib.ListN.{length, get_or}
-use borrow.Author.Tests.{eq-eqb, ne_eqb}
-use Rattle.line.specs.Count.{count, all}
+use lib.ListN.{length, get_or, take, drop, replicate, length-drop, length-replicate, get_or-replicate}
+use lib.Seq.{get_or-take, get_or-drop, length-take-le, ext_get_or}
+use borrow.Author.Tests.{eqb-true, eq-eqb}
+use Rattle.std.specs.Bool.{MatchBool, Decides}
+use Rattle.std.specs.List.{AllWithin, HoldsAt}
+use Rattle.std.proofs.lemmas.Bool.Decides.{same_from_decides, Decides-eqb}
+use Rattle.std.proofs.lemmas.Slice.Eq.{slice_eq-Decides}
+use lib.Pointwise.{pointwise}
+use Rattle.line.specs.Count.{all}
 use Rattle.line.specs.Line.{has_round}
-use Rattle.line.proofs.CountLaws.{le_or_lt, count_zero, count_hit, count_miss, count_le, all_true, all_hold, all_count}
-use Rattle.compare.specs.Compare.{sends, unless_other, kept_on, all_are, equal_bytes}
+use Rattle.line.specs.Writing.{Each}
+use Rattle.line.proofs.WritingLaws.{zeros}
+use Rattle.line.proofs.LineLaws.{round_means, row_within}
+use Rattle.line.proofs.CountLaws.{le_or_lt, all_true, all_hold, all_same, both_true, both_hold}
+use Rattle.compare.specs.Compare.{sends, unless_other, kept_on}
 
--- ---- counting a sender's bytes
+-- ---- a row
 
-module _ (bytes : List ℕ) (a b : ℕ) where
-  pub equal_none : equal_bytes bytes a 0 b ≡ 0
-  unfolding equal_bytes
-  equal_none = count_zero _
+module _ (row : List ℕ) (b : ℕ) where
+  abbrev AllAre : Type 0
+  AllAre = (k : ℕ) → k < length row → get_or row k 0 ≡ b
 
-  pub equal_hit : (j : ℕ) → get_or bytes (a + j) 0 ≡ b → equal_bytes bytes a (j + 1) b ≡ equal_bytes bytes a j b + 1
-  unfolding equal_bytes
-  equal_hit j e = count_hit j _ (eq-eqb _ b e)
+  decided : Decides (all (length row) (λ j. eqb (get_or row j 0) b)) AllAre
+  decided =
+      (λ e k h. eqb-true _ b (all_true (length row) _ e k h), λ same. all_hold (length row) _ (λ k h. eq-eqb _ b (same k h)))
 
-  pub equal_miss : (j : ℕ) → get_or bytes (a + j) 0 ≢ b → equal_bytes bytes a (j + 1) b ≡ equal_bytes bytes a j b
-  unfolding equal_bytes
-  equal_miss j e = count_miss j _ (ne_eqb _ b e)
+  -- as `all` tells
+  pub each_told : (r : Bool) → MatchBool r (AllWithin (λ x. x ≡ b) row 0 (length row)) ((k : ℕ) × (k < length row) × HoldsAt (λ x. x ≢ b) row k)
+      → r ≡ all (length row) (λ j. eqb (get_or row j 0) b)
+  each_told r told = same_from_decides r _ (told_by r told) decided
+    where
+      told_by : (r : Bool) → MatchBool r (AllWithin (λ x. x ≡ b) row 0 (length row)) ((k : ℕ) × (k < length row) × HoldsAt (λ x. x ≢ b) row k) → Decides r AllAre
+      told_by true h = (λ e k l. h k 0 (omega arith) l, λ same. refl)
+      told_by false h = (λ e. absurd (false≢true e), λ same. absurd (h.2 0 (same h.0 h.1)))
 
-  pub equal_le : (j : ℕ) → equal_bytes bytes a j b ≤ j
-  unfolding equal_bytes
-  equal_le j = count_le j _
+  -- by the first 16 and the last 16
+  pub both_told : (first last : List ℕ) (p q : Bool) → 16 ≤ length row → length row ≤ 32 → first ≡ take 16 row → last ≡ drop (length row - 16) row
+      → p ≡ pointwise eqb first (replicate 16 b) → q ≡ pointwise eqb last (replicate 16 b) → (p && q) ≡ all (length row) (λ j. eqb (get_or row j 0) b)
+  both_told first last p q enough most first_is last_is p_is q_is = same_from_decides (p && q) _ (told, holds) decided
+    where
+      first_told : Decides p (take 16 row ≡ replicate 16 b)
+      first_told = rw first_is at (slice_eq-Decides Decides-eqb first (replicate 16 b) p p_is)
 
--- ---- all of them
+      last_told : Decides q (drop (length row - 16) row ≡ replicate 16 b)
+      last_told = rw last_is at (slice_eq-Decides Decides-eqb last (replicate 16 b) q q_is)
 
-module _ (bytes : List ℕ) (a n b : ℕ) where
-  -- as many are b as there are
-  pub counted_all : eqb (equal_bytes bytes a n b) n ≡ all_are bytes a n b
-  unfolding equal_bytes all_are
-  counted_all = all_count n _
+      sixteen : length (drop (length row - 16) row) ≡ 16
+      sixteen = length-drop (length row - 16) row ∙ omega arith
 
--- not all of the first 16
-pub first_not : (bytes : List ℕ) (a n b : ℕ) → 16 ≤ n → equal_bytes bytes a 16 b < 16 → all_are bytes a n b ≡ false
-unfolding equal_bytes all_are
-first_not bytes a n b h few = go (all n (λ j. eqb (get_or bytes (a + j) 0) b)) refl
-  where
-    go : (c : Bool) → all n (λ j. eqb (get_or bytes (a + j) 0) b) ≡ c → c ≡ false
-    go false e = refl
-    go true e =
-        let sixteen = all_hold 16 (λ j. eqb (get_or bytes (a + j) 0) b) (λ k l. all_true n _ e k (omega arith)) in
-        let none = ne_eqb (count 16 (λ j. eqb (get_or bytes (a + j) 0) b)) 16 (λ q. omega arith) in
-        absurd (true≢false (sym sixteen ∙ sym (all_count 16 _) ∙ none))
+      told : (p && q) ≡ true → AllAre
+      told e k h =
+          let (u, v) = both_true p q e in
+          ⊎_elim
+          (λ (l : 16 ≤ k).
+          let place : length row - 16 + (k - (length row - 16)) ≡ k = omega arith in
+          rw place at (sym (get_or-drop (length row - 16) row (k - (length row - 16)) 0))
+          ∙ (rw (last_told.0 v) (get_or-replicate 16 (k - (length row - 16)) b 0 (omega arith))))
+          (λ (l : k < 16). sym (get_or-take 16 row k 0 l) ∙ (rw (first_told.0 u) (get_or-replicate 16 k b 0 l)))
+          (le_or_lt 16 k)
 
--- all of the first 16: then all are b exactly if the last 16 are
-pub last_decide : (bytes : List ℕ) (a n b : ℕ) → 16 ≤ n → n ≤ 32 → 16 ≤ equal_bytes bytes a 16 b
-    → eqb (equal_bytes bytes (a + (n - 16)) 16 b) 16 ≡ all_are bytes a n b
-unfolding equal_bytes all_are
-last_decide bytes a n b h l enough = all_count 16 (λ j. eqb (get_or bytes (a + (n - 16) + j) 0) b) ∙ go (all 16 (λ j. eqb (get_or bytes (a + (n - 16) + j) 0) b)) refl (all n (λ j. eqb (get_or bytes (a + j) 0) b)) refl
-  where
-    first : (k : ℕ) → k < 16 → eqb (get_or bytes (a + k) 0) b ≡ true
-    first =
-        all_true 16 (λ j. eqb (get_or bytes (a + j) 0) b)
-        (sym (all_count 16 (λ j. eqb (get_or bytes (a + j) 0) b)) ∙ eq-eqb (count 16 (λ j. eqb (get_or bytes (a + j) 0) b)) 16 (omega (arith, count_le 16 (λ j. eqb (get_or bytes (a + j) 0) b))))
+      holds : AllAre → (p && q) ≡ true
+      holds same =
+          both_hold p q
+          (first_told.1
+          (ext_get_or 0 _ _ (length-take-le 16 row enough ∙ sym (length-replicate 16 b))
+          (λ k h.
+          let l : k < 16 = rw (length-take-le 16 row enough) at h in
+          get_or-take 16 row k 0 l ∙ same k (omega arith) ∙ sym (get_or-replicate 16 k b 0 l))))
+          (last_told.1
+          (ext_get_or 0 _ _ (sixteen ∙ sym (length-replicate 16 b))
+          (λ k h.
+          let l : k < 16 = rw sixteen at h in
+          get_or-drop (length row - 16) row k 0 ∙ same (length row - 16 + k) (omega arith) ∙ sym (get_or-replicate 16 k b 0 l))))
 
-    same_place : (k : ℕ) → 16 ≤ k → k < n → a + (n - 16) + (k - (n - 16)) ≡ a + k
-    same_place k u v = omega arith
+-- ---- a row of a round
 
-    go : (c : Bool) → all 16 (λ j. eqb (get_or bytes (a + (n - 16) + j) 0) b) ≡ c
-        → (d : Bool) → all n (λ j. eqb (get_or bytes (a + j) 0) b) ≡ d → c ≡ d
-    go true e true q = refl
-    go false e false q = refl
-    go true e false q =
-        absurd
-        (true≢false
-        (sym
-        (all_hold n (λ j. eqb (get_or bytes (a + j) 0) b)
-        (λ k v.
-        ⊎_elim (λ (u : 16 ≤ k). rw (same_place k u v) at (all_true 16 _ e (k - (n - 16)) (omega arith))) (λ (u : k < 16). first k u) (le_or_lt 16 k)))
-        ∙ q))
-    go false e true q =
-        absurd
-        (true≢false
-        (sym
-        (all_hold 16 (λ j. eqb (get_or bytes (a + (n - 16) + j) 0) b)
-        (λ k v. let at_place : a + (n - 16 + k) ≡ a + (n - 16) + k = omega arith in rw at_place at (all_true n _ q (n - 16 + k) (omega arith))))
-        ∙ e))
+module _ (n : ℕ) (bytes : List ℕ) (start i : ℕ) where
+  pub row_there : has_round n start (length bytes) ≡ true → i < n → (start + i * n + n ≤ length bytes) × (n ≤ 32)
+  row_there room h =
+      let there = round_means n start (length bytes) room in
+      let within = row_within i n n h in
+      (omega (arith, there.1), there.0)
 
--- ---- one sender
+  abbrev row : List ℕ
+  row = take (start + i * n + n - (start + i * n)) (drop (start + i * n) bytes)
 
-pub one_sender : (bytes : List ℕ) (start n : ℕ) (said kept : List ℕ) (i : ℕ) (same : Bool) → same ≡ all_are bytes (start + i * n) n (get_or said i 0)
-    → (if same then get_or kept i 0 else 0) ≡ unless_other bytes start n said kept i
-unfolding unless_other sends all_are
-one_sender bytes start n said kept i same e = rw e
+  row_is : (j : ℕ) → j < n → get_or row j 0 ≡ get_or bytes (start + i * n + j) 0
+  row_is j h = get_or-take _ (drop (start + i * n) bytes) j 0 (omega arith) ∙ get_or-drop (start + i * n) bytes j 0
 
--- ---- a round that the bytes have
+  pub row_long : has_round n start (length bytes) ≡ true → i < n → length row ≡ n
+  row_long room h =
+      let fits : start + i * n + n - (start + i * n) ≤ length (drop (start + i * n) bytes) = rw (length-drop (start + i * n) bytes) (omega (arith, (row_there room h).0)) in
+      length-take-le _ (drop (start + i * n) bytes) fits ∙ omega arith
 
-module _ (n : ℕ) (said bytes : List ℕ) (start : ℕ) (kept : List ℕ) (i : ℕ) where
-  pub kept_there : has_round n start (length bytes) ≡ true → kept_on n said bytes start kept i ≡ unless_other bytes start n said kept i
+  pub row_sends : (b : ℕ) → has_round n start (length bytes) ≡ true → i < n → all (length row) (λ j. eqb (get_or row j 0) b) ≡ sends bytes start n i b
+  unfolding sends
+  row_sends b room h = rw (row_long room h) (all_same n _ _ (λ j l. rw (row_is j l)))
+
+-- ---- a round
+
+module _ (n : ℕ) (said bytes : List ℕ) (start : ℕ) (kept : List ℕ) where
+  pub kept_there : (i : ℕ) → has_round n start (length bytes) ≡ true → kept_on n said bytes start kept i ≡ unless_other bytes start n said kept i
   unfolding kept_on
-  kept_there e = rw e
+  kept_there i e = rw e
 
-  pub kept_nowhere : has_round n start (length bytes) ≡ false → 0 ≡ kept_on n said bytes start kept i
-  unfolding kept_on
-  kept_nowhere e = rw e
+  pub kept_all : (l : List ℕ) → has_round n start (length bytes) ≡ true → Each n l (unless_other bytes start n said kept) → Each n l (kept_on n said bytes start kept)
+  unfolding Each
+  kept_all l room each i h = each i h ∙ sym (kept_there i room)
+
+  pub kept_nowhere : has_round n start (length bytes) ≡ false → Each n (replicate 32 0) (kept_on n said bytes start kept)
+  unfolding Each kept_on
+  kept_nowhere e i h = zeros 32 i ∙ rw e

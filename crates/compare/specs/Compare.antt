@@ -1,6 +1,6 @@
 -- A round's bytes from one sender beside what it should send. Stations are counted from 0. Bytes are laid out like a run table.
 use Rattle.std.specs.Prelude.{ℕ, ◌+◌, ◌*◌, Bool, List, eqb, length, get_or, if◌then◌else◌}
-use Rattle.line.specs.Count.{count, all}
+use Rattle.line.specs.Count.{all}
 use Rattle.line.specs.Line.{has_round}
 
 -- in the round that starts at `start`, station i sends b to every receiver
@@ -14,13 +14,3 @@ unless_other bytes start n said kept i = if sends bytes start n i (get_or said i
 -- 0 too where the bytes have no such round
 unfoldable pub kept_on : ℕ → List ℕ → List ℕ → ℕ → List ℕ → ℕ → ℕ
 kept_on n said bytes start kept i = if has_round n start (length bytes) then unless_other bytes start n said kept i else 0
-
--- ---- for private functions
-
--- the n bytes from a on are b
-unfoldable pub all_are : List ℕ → ℕ → ℕ → ℕ → Bool
-all_are bytes a n b = all n (λ j. eqb (get_or bytes (a + j) 0) b)
-
--- how many of the n bytes from a on are b
-unfoldable pub equal_bytes : List ℕ → ℕ → ℕ → ℕ → ℕ
-equal_bytes bytes a n b = count n (λ j. eqb (get_or bytes (a + j) 0) b)

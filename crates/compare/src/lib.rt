@@ -1,64 +1,33 @@
 // What the stations send in a round, beside what they should: a sender's bytes to all stand side by side in the log.
 #![tactic(auto)]
 
-ghost use Rattle.std.specs.Prelude.{◌≡◌, ◌+◌, ◌*◌, ◌≤◌, length, if◌then◌else◌};
+ghost use Rattle.std.specs.Prelude.{◌≡◌, ◌≤◌, ◌<◌, true, eqb, length, get_or};
+ghost use Rattle.line.specs.Count.{all};
+ghost use Rattle.line.specs.Line.{has_round};
 ghost use Rattle.line.specs.Writing.{Each};
-ghost use Rattle.compare.specs.Compare.{equal_bytes, all_are, unless_other, kept_on};
+ghost use Rattle.compare.specs.Compare.{sends, kept_on};
 
 use line::Line;
 
-// How many of the n bytes from `at` on are b.
-fn equal(bytes: &[u8], at: usize, n: usize, b: u8) -> u8
-    requires { (n ≤ 32) × (at + n ≤ length bytes.now) }
-    ensures { result ≡ equal_bytes bytes.now at n b }
+// Whether all of a row is b. Blocks of a fixed length are the quickest, so that from 16 bytes on the first 16 and the last 16 are looked at.
+fn all_are(row: &[u8], b: u8) -> bool
+    requires { length row.now ≤ 32 }
+    ensures { result ≡ all (length row.now) (λ j. eqb (get_or row.now j 0) b) }
 {
-    let mut count: u8 = 0;
-    let mut j: usize = 0;
-    while j < n {
-        if bytes[at + j] == b {
-            count += 1;
-        }
-        j += 1;
-    }
-    count
+    let (Some(first), Some(last)) = (row.first_chunk::<16>(), row.last_chunk::<16>()) else {
+        return row.iter().all(|x| *x == b);
+    };
+    *first == [b; 16] && *last == [b; 16]
 }
 
-// Whether the n bytes from `at` on are b. Blocks of a fixed length are the quickest, so that from 16 bytes on the first 16 and the last 16 are looked at.
-fn all_are(bytes: &[u8], at: usize, n: usize, b: u8) -> bool
-    requires { (n ≤ 32) × (at + n ≤ length bytes.now) }
-    ensures { result ≡ all_are bytes.now at n b }
+// Whether station i sends b to every receiver in the round that starts at `start`.
+fn sends(line: Line, bytes: &[u8], start: usize, i: usize, b: u8) -> bool
+    requires { (has_round line.n start (length bytes.now) ≡ true) × (i < line.n) }
+    ensures { result ≡ sends bytes.now start line.n i b }
 {
-    if 16 <= n {
-        if equal(bytes, at, 16, b) < 16 {
-            return false;
-        }
-        return equal(bytes, at + (n - 16), 16, b) == 16;
-    }
-    equal(bytes, at, n, b) as usize == n
-}
-
-// What was kept before, if it is the same to all, otherwise 0.
-fn unless_other(kept: u8, same: bool) -> u8
-    ensures { result ≡ (if same then kept else 0) }
-{
-    if same { kept } else { 0 }
-}
-
-// All senders of the round whose bytes start at `start`.
-fn all_senders(bytes: &[u8], start: usize, n: usize, said: &[u8; 32], kept: [u8; 32]) -> [u8; 32]
-    requires { (n ≤ 32) × (start + n * n ≤ length bytes.now) }
-    ensures { Each n result (unless_other bytes.now start n said.now kept) }
-{
-    let mut next = [0u8; 32];
-    let mut i: usize = 0;
-    let mut at = start;
-    while i < n {
-        let same = all_are(bytes, at, n, said[i]);
-        next[i] = unless_other(kept[i], same);
-        at += n;
-        i += 1;
-    }
-    next
+    let n = line.n as usize;
+    let at = start + i * n;
+    all_are(&bytes[at..at + n], b)
 }
 
 // Where the byte i of `said` is what station i should send: what stands in `kept`, if it sends this to every receiver in the round that starts at `start`,
@@ -66,8 +35,13 @@ fn all_senders(bytes: &[u8], start: usize, n: usize, said: &[u8; 32], kept: [u8;
 pub fn kept_on(line: Line, said: &[u8; 32], bytes: &[u8], start: usize, kept: [u8; 32]) -> [u8; 32]
     ensures { Each line.n result (kept_on line.n said.now bytes.now start kept) }
 {
-    if line.has_round(start, bytes.len()) {
-        return all_senders(bytes, start, line.n as usize, said, kept);
+    if !line.has_round(start, bytes.len()) {
+        return [0; 32];
     }
-    [0u8; 32]
+    let mut next = [0; 32];
+    for i in 0..line.n as usize {
+        let same = sends(line, bytes, start, i, said[i]);
+        next[i] = if same { kept[i] } else { 0 };
+    }
+    next
 }
