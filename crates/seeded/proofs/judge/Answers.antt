@@ -1,5 +1,4 @@
 -- `judge` meets its contract: the causes are joined in their order.
-use borrow.Author.Rules.{rules}
 use Rattle.generator.specs.Judgement.{seed_some}
 use Rattle.seeded.specs.Promise.{seed_verdict}
 use Rattle.seeded.proofs.judge.Goals as goal

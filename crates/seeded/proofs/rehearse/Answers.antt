@@ -1,5 +1,4 @@
 -- `rehearse` meets its contract, case by case of the verdict.
-use borrow.Author.Rules.{rules}
 use mathlib.Core.Path.{sym, ◌∙◌}
 use Rattle.seeded.proofs.PromiseLaws.{begins, accepted, refused}
 use Rattle.seeded.proofs.rehearse.Goals as goal
