@@ -5,7 +5,7 @@ use Rattle.std.specs.declared.result.Result.{Result}
 use Rattle.std.specs.declared.result.Result.TheVariants.{Ok, Err}
 use mathlib.Core.Path.{◌≡◌, refl}
 use mathlib.Core.Bool.{Bool, true, false}
-use mathlib.Core.List.{List, [], ◌∷◌, ◌++◌, append-nil}
+use mathlib.Core.List.{[], ◌∷◌, ◌++◌, append-nil}
 use mathlib.Core.Logic.{◌⊎◌, inl, inr}
 use native.Mathlib.Omega.{arith}
 use native.Mathlib.Nat.{le_of_eq}
@@ -16,9 +16,7 @@ use Rattle.line.specs.Marks.{marked}
 use Rattle.line.proofs.CountLaws.{le_or_lt}
 use Rattle.refusal.specs.Cause.{number}
 use Rattle.text.specs.Decimal.{space, decimal, numeral}
-use Rattle.text.specs.Laid.{Puts}
 use Rattle.text.proofs.DecimalLaws.{one_digit, two_digits, decimal_numeral}
-use Rattle.text.proofs.LaidLaws.{puts_then}
 use Rattle.listing_lines.proofs.LineLaws.{refusal_short}
 use Rattle.finding.specs.Finding.{number_if, numbers, broke_line, finding}
 

@@ -1,5 +1,4 @@
 -- `of_answer` meets its contract, case by case of the answer.
-use borrow.Author.Rules.{rules}
 use Rattle.finding.proofs.of_answer.Goals as goal
 
 pub returns-in-Ok : goal.returns-in-Ok

@@ -1,5 +1,4 @@
 -- `of_set` meets its contract: the word, the numbers and the line's end.
-use borrow.Author.Rules.{rules}
 use Rattle.text.proofs.LaidLaws.{puts_then}
 use Rattle.finding.specs.Finding.{broke_line}
 use Rattle.finding.proofs.of_set.Goals as goal

@@ -1,6 +1,5 @@
 -- `list_outcomes` meets its contract.
 use Rattle.listing.proofs.ListingLaws.{lists_run}
-use borrow.Author.Rules.{rules}
 use Rattle.listing.proofs.list_outcomes.Goals as goal
 
 pub returns : goal.returns

@@ -3,7 +3,6 @@ use lib.ListN.{replicate}
 use lib.Seq.{length-take-le}
 use Rattle.line.specs.Line.{outcome_size, largest_outcomes}
 use Rattle.listing.proofs.BitLaws.{few, bits_begin}
-use borrow.Author.Rules.{rules}
 use native.Mathlib.Omega.{arith}
 use Prim.Native.Nat.{◌*◌, ◌≤◌}
 use mathlib.Core.Path.{sym}

@@ -1,7 +1,6 @@
 -- `list_whole` meets its contract, by what the reader answers.
 use Rattle.listing.proofs.BitLaws.{begun}
 use Rattle.listing.proofs.ListingLaws.{whole_accepted, whole_refused}
-use borrow.Author.Rules.{rules}
 use Rattle.listing.proofs.list_whole.Goals as goal
 
 pub list_run-requires : goal.list_run-requires

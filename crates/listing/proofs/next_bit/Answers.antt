@@ -1,6 +1,5 @@
 -- `next_bit` meets its contract.
 use Rattle.listing.proofs.BitLaws.{bit_run_more, next_read}
-use borrow.Author.Rules.{rules}
 use Rattle.listing.proofs.next_bit.Goals as goal
 
 pub returns : goal.returns

@@ -1,11 +1,8 @@
 -- `run_bits` meets its contract.
 use Rattle.line.specs.Width.{bits}
 use Rattle.line.proofs.WidthLaws.{bits_some}
-use Rattle.listing.specs.Loops.{BitsRun}
 use Rattle.listing.proofs.BitLaws.{bit_run_more, table_whole}
-use borrow.Author.Rules.{rules}
 use native.Mathlib.Omega.{arith}
-use Prim.Native.Nat.{◌-◌, ◌≤◌}
 use mathlib.Core.Path.{◌≡◌, sym, ◌∙◌}
 use Rattle.listing.proofs.run_bits.Goals as goal
 

@@ -1,5 +1,4 @@
 -- `of_run` meets its contract.
-use borrow.Author.Rules.{rules}
 use Rattle.text.proofs.LaidLaws.{puts_then}
 use Rattle.listing_lines.proofs.of_run.Goals as goal
 

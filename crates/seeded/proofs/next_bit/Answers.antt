@@ -1,5 +1,4 @@
 -- `next_bit` meets its contract.
-use borrow.Author.Rules.{rules}
 use Rattle.seeded.proofs.BitLaws.{bit_more}
 use Rattle.seeded.proofs.next_bit.Goals as goal
 

@@ -1,10 +1,7 @@
 -- `run` meets its contract.
-use borrow.Author.Rules.{rules}
 use native.Mathlib.Omega.{arith}
-use Prim.Native.Nat.{◌-◌, ◌≤◌}
 use mathlib.Core.Path.{◌≡◌, sym, ◌∙◌}
 use Rattle.line.specs.Width.{bits}
-use Rattle.seeded.specs.Loops.{BitsRun}
 use Rattle.seeded.proofs.BitLaws.{bits_end}
 use Rattle.seeded.proofs.run.Goals as goal
 
