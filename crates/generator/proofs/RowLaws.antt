@@ -7,7 +7,7 @@ use mathlib.Core.Logic.{◌⊎◌, inl, inr}
 use mathlib.Core.List.{List}
 use native.Mathlib.Omega.{arith}
 use native.Mathlib.Numerals.{add-one}
-use native.Mathlib.Nat.{add-zero, div-add-mod', le_refl, mul-le-mul_right, zero-mul}
+use native.Mathlib.Nat.{add-zero, div-add-mod', le_refl, mul-le-mul_right, zero-mul, mod-lt, mod-eq_of_lt, mod_self, suc-mod}
 use lib.Arith.{digits_div}
 use lib.ListN.{length, get_or, set, take, drop, replicate, length-drop, get_or-replicate}
 use lib.Seq.{length-take-le}
@@ -140,6 +140,20 @@ module _ (n marks state k : ℕ) (table₀ : List ℕ) (more : k < length table�
     drawn_more at m a z size e =
         let lent : length (take n (drop (k * n) table)) ≡ n = length-take-le n (drop (k * n) table) (rw length-drop (omega (arith, room))) in
         rw (a, z) (row_more (rw (a, z, lent) at size) (rw (a, z, lent) at e))
+
+-- the next row's sender, and after the last one the first again
+module _ (n k from : ℕ) (some : 1 ≤ n) (e : from ≡ k % n) where
+  next_row_is : (k + 1) % n ≡ suc from % n
+  next_row_is = rw (e, add-one k) (suc-mod k n)
+
+  pub from_next : from + 1 < n → from + 1 ≡ (k + 1) % n
+  from_next l = add-one from ∙ sym (next_row_is ∙ mod-eq_of_lt (omega (arith, l)))
+
+  pub from_first : n ≤ from + 1 → 0 ≡ (k + 1) % n
+  from_first l =
+      let below : from < n = rw e (mod-lt k some) in
+      let z : suc from ≡ n = omega arith in
+      sym (next_row_is ∙ rw z (mod_self n))
 
 -- none yet
 pub drawn_none : (n marks state : ℕ) (table : List ℕ) → Drawn n marks state (0 * n) table table state

@@ -43,11 +43,17 @@ pub(crate) fn fill(n: u8, marks: u32, mut state: u32, table: &mut [u8]) -> u32
     ensures { Drawn n marks state (length table.old) table.old table.new result }
 {
     let width = usize::from(n);
+    let mut from = 0;
     // By places: a proof knows nothing of what is written through `chunks_exact_mut`.
     for k in 0..table.len() / width {
         let at = k * width;
-        let bad = marks::is_marked(marks, (k % width) as u8);
-        state = row(&mut table[at..at + width], bad, state);
+        state = row(
+            &mut table[at..at + width],
+            marks::is_marked(marks, from),
+            state,
+        );
+        // k % n, had without a division for each row.
+        from = if from + 1 < n { from + 1 } else { 0 };
     }
     state
 }

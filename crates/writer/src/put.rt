@@ -110,5 +110,9 @@ pub(crate) fn sheet(header: &[u8], table: &[u8], sheet: &mut [u8], k: usize)
     ensures { sheet.new ≡ sheet_of header.now table.now }
 {
     record::put_header(header, sheet, k);
+    // A sheet without records needs no leaps.
+    if k == 0 {
+        return;
+    }
     put_records(layout::header_of(header), table, sheet, k);
 }
