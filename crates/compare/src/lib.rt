@@ -21,6 +21,7 @@ fn all_are(row: &[u8], b: u8) -> bool
 }
 
 // Whether station i sends b to every receiver in the round that starts at `start`.
+#[tactic(auto, using(crate::proofs::CompareLaws::row_there, crate::proofs::CompareLaws::row_long))]
 fn sends(line: Line, bytes: &[u8], start: usize, i: usize, b: u8) -> bool
     requires { (has_round line.n start (length bytes.now) ≡ true) × (i < line.n) }
     ensures { result ≡ sends bytes.now start line.n i b }
