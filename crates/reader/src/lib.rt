@@ -29,7 +29,10 @@ fn read_chain(sheet: &[u8], start: usize, table: &mut [u8]) -> Reading
     ensures { ReadsPart sheet.now start table.old table.new result }
 {
     let header = layout::header_of(sheet);
-    let mut kept = [Placed::default(); walk::RECORDS];
+    let mut kept = [Placed {
+        place: 0,
+        ballot: 0,
+    }; walk::RECORDS];
     let walked = walk::walk(sheet, header, &mut kept);
     match walked {
         Walked::Accepted(m) => {

@@ -42,10 +42,8 @@ fn judge(
         return Verdict::Refused(c);
     }
     let p = place(header.line, record);
-    *kept = Placed {
-        place: p as u32,
-        ballot: record.ballot,
-    };
+    kept.place = p as u32;
+    kept.ballot = record.ballot;
     seen::look(seen, p)
 }
 
