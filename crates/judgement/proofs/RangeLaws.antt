@@ -1,11 +1,13 @@
 -- Laws of a record's judgement: what cause 11 lets through, the numbers handed on judged as the sheet's record, and which records have one place.
 -- Assumes nothing.
-use Prim.Native.Nat.{ℕ, ◌≤◌, ◌<◌}
+use Prim.Native.Nat.{ℕ, zero, suc, ◌+◌, ◌*◌, ◌≤◌, ◌<◌}
 use mathlib.Core.Path.{◌≡◌, sym, ◌∙◌}
-use mathlib.Core.Bool.{true, false, not, ◌&&◌, ◌||◌}
+use mathlib.Core.Bool.{true, false, not, ◌&&◌, ◌||◌, or-true, or-false}
+use mathlib.Core.Logic.{◌≢◌}
 use mathlib.Core.List.{List}
+use native.Mathlib.Omega.{arith}
 use lib.Dec.{leb, eqb}
-use borrow.Author.Tests.{leb-false, lt-leb, eqb-true, eq-eqb, not-false}
+use borrow.Author.Tests.{leb-false, le-leb, lt-leb, eqb-true, eq-eqb, ne_eqb, not-false}
 use Rattle.line.proofs.CountLaws.{both_true}
 use Rattle.line.specs.Line.{rounds}
 use Rattle.line.specs.Width.{bits}
@@ -74,6 +76,14 @@ range_passes n last bits round from to bit rest r =
     )
 
 -- ---- the numbers handed on
+
+-- a bit below `bits` and a zero byte after it, as one number of two bytes
+pub two_bytes : (bits bit rest : ℕ) → bits < 256 → leb bits (bit + 256 * rest) ≡ leb bits bit || not (eqb rest 0)
+two_bytes bits bit zero h =
+    let e : bit + 256 * 0 ≡ bit = omega arith in rw e (sym (or-false (leb bits bit)))
+two_bytes bits bit (suc r) h =
+    let ne : suc r ≢ 0 = λ e. omega arith in
+    rw (le-leb bits (bit + 256 * suc r) (omega arith), ne_eqb (suc r) 0 ne) (sym (or-true (leb bits bit)))
 
 module _ (n last bits : ℕ) (r : numbers.Record) where
   -- those of a record in their ranges

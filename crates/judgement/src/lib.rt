@@ -57,15 +57,14 @@ pub fn bit_to_8(sheet: &[u8], b: u8, table_len: usize) -> Verdict
     bit_there(sheet, b)
 }
 
-// Cause 11, of a record's numbers. `last` is R.
+// Cause 11, of a record's numbers. `last` is R. A bit below `bits` and a zero byte after it are one comparison of two bytes.
 fn out_of_place(n: u8, last: u8, bits: u8, record: Record) -> bool
     ensures { result ≡ out_of_place n last bits «record» }
 {
     header::outside(1, last, record.round)
         || header::outside(1, n, record.from)
         || header::outside(1, n, record.to)
-        || bits <= record.bit
-        || record.rest != 0
+        || u16::from(bits) <= u16::from_le_bytes([record.bit, record.rest])
 }
 
 // Cause 12, of a station's number.

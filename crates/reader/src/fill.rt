@@ -5,7 +5,7 @@ ghost use Rattle.reader.specs.Loops.{put_at, laid};
 use line::Line;
 
 // A chained record's ballot, with its place in all bits' tables.
-#[derive(Clone, Copy, Default)]
+#[derive(Clone, Copy)]
 pub(crate) struct Placed {
     pub(crate) place: u32,
     pub(crate) ballot: u8,

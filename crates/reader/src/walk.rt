@@ -40,10 +40,8 @@ fn judge(
     let bits = width::bits(header.w);
     judgement::numbers_verdict(header.line.n, last, bits, header.marks, record)?;
     let p = place(header.line, record);
-    *kept = Placed {
-        place: p as u32,
-        ballot: record.ballot,
-    };
+    kept.place = p as u32;
+    kept.ballot = record.ballot;
     seen::look(seen, p)
 }
 
