@@ -9,7 +9,7 @@ use native.Mathlib.Omega.{arith}
 use native.Mathlib.Numerals.{add-one}
 use native.Mathlib.Nat.{add-zero, div-add-mod', le_refl, mul-le-mul_right, zero-mul, mod-lt, mod-eq_of_lt, mod_self, suc-mod}
 use lib.Arith.{digits_div}
-use lib.ListN.{length, get_or, set, take, drop, replicate, length-drop, get_or-replicate}
+use lib.ListN.{length, get_or, set, take, drop, length-drop}
 use lib.Seq.{length-take-le}
 use Rattle.line.specs.Count.{count}
 use Rattle.line.specs.Marks.{marked}
@@ -42,9 +42,9 @@ module _ (bad : Bool) (n s : ℕ) (row : List ℕ) where
   unfolding Each row_byte
   row_is_drawn r e (q, each) = rw e (q, each)
 
-  pub row_is_silent : bad ≡ false → row ≡ replicate n silence → (s ≡ (if bad then state_after n s else s)) × Each n row (row_byte bad s)
+  pub row_is_silent : bad ≡ false → Each n row (λ j. silence) → (s ≡ (if bad then state_after n s else s)) × Each n row (row_byte bad s)
   unfolding Each row_byte
-  row_is_silent e q = rw (e, q) (refl, λ j h. get_or-replicate n j silence 0 h)
+  row_is_silent e each = rw e (refl, each)
 
 -- ---- whole rows
 
