@@ -1,15 +1,13 @@
 -- Which bytes of the outcomes are written, and that they are the stations' outcomes. Assumes nothing.
-use Prim.Native.Nat.{ℕ, zero, suc, min, ◌/◌, ◌%◌, ◌≤◌, ◌<◌}
+use Prim.Native.Nat.{ℕ, min, ◌/◌, ◌%◌, ◌≤◌, ◌<◌}
 use mathlib.Core.Path.{◌≡◌, refl, sym, ◌∙◌}
 use mathlib.Core.Bool.{Bool, true, false}
 use native.Mathlib.Omega.{arith}
-use mathlib.Core.List.{List, [], ◌∷◌, ◌++◌}
-use lib.Dec.{leb}
+use mathlib.Core.List.{List, ◌++◌}
 use lib.ListN.{length, get_or, take, drop}
 use lib.Seq.{ext_get_or, length-take-le}
-use borrow.Author.Tests.{leb-true, leb-false, le-leb}
 use Rattle.std.specs.Prelude.{if◌then◌else◌}
-use Rattle.line.proofs.CountLaws.{if_true}
+use native.Mathlib.Nat.{min-eq_left}
 use Rattle.line.specs.Line.{outcome_size, outcomes_length, largest_outcomes}
 use Rattle.line.specs.Marks.{marked}
 use Rattle.line.specs.Writing.{Each, over}
@@ -21,47 +19,21 @@ use Rattle.broadcast.specs.Guarantees.{Good}
 use Rattle.broadcast.proofs.BytesLaws.{length_tabulate, get_d_tabulate, tabulate_same}
 use Rattle.outcome.specs.Outcome.{outcome_byte, outcome_at, reach}
 
--- ---- a station's four bytes
-
-pub four_bad : (bad : Bool) (v g c : ℕ) → bad ≡ true → Each 4 (255 ∷ 255 ∷ 255 ∷ 255 ∷ []) (outcome_byte bad v g c)
-unfolding Each outcome_byte
-four_bad bad v g c e zero h = rw e refl
-four_bad bad v g c e (suc zero) h = rw e refl
-four_bad bad v g c e (suc (suc zero)) h = rw e refl
-four_bad bad v g c e (suc (suc (suc zero))) h = rw e refl
-four_bad bad v g c e (suc (suc (suc (suc j)))) h = absurd (omega arith)
-
-pub four_good : (bad : Bool) (v g f c : ℕ) → bad ≡ false → f ≡ flag_of g → Each 4 (v ∷ g ∷ f ∷ c ∷ []) (outcome_byte bad v g c)
-unfolding Each outcome_byte pick
-four_good bad v g f c e flag zero h = rw e refl
-four_good bad v g f c e flag (suc zero) h = rw e refl
-four_good bad v g f c e flag (suc (suc zero)) h = rw e flag
-four_good bad v g f c e flag (suc (suc (suc zero))) h = rw e refl
-four_good bad v g f c e flag (suc (suc (suc (suc j)))) h = absurd (omega arith)
-
 -- ---- how many bytes are written
-
-pub reach_is : (size : ℕ) → min size largest_outcomes ≡ reach size
-unfolding reach
-reach_is size = go (leb size largest_outcomes) refl
-  where
-    go : (b : Bool) → leb size largest_outcomes ≡ b → min size largest_outcomes ≡ (if b then size else largest_outcomes)
-    go true e = omega (arith, leb-true size largest_outcomes e)
-    go false e = omega (arith, leb-false size largest_outcomes e)
 
 -- a part that is lent up to there and filled
 pub reach_filled : (l part : List ℕ) (F : ℕ → ℕ) (end k : ℕ) → end ≡ min (length l) largest_outcomes → length part ≡ length (take end l)
     → length part ≤ k → Each k part F → part ++ drop end l ≡ over l 0 (reach (length l)) F
-unfolding Each
+unfolding Each reach
 reach_filled l part F end k e long whole each =
     let within : end ≤ length l = omega arith in
     let size : length part ≡ end = long ∙ length-take-le end l within in
-    rw (← reach_is (length l), ← e) (over_part l part 0 end (omega arith) size F (λ j h. each j (omega arith)))
+    rw (← e) (over_part l part 0 end (omega arith) size F (λ j h. each j (omega arith)))
 
 -- all of a line's
 pub reach_all : (size : ℕ) → size ≤ largest_outcomes → reach size ≡ size
 unfolding reach
-reach_all size h = if_true size largest_outcomes (le-leb size largest_outcomes h)
+reach_all size h = min-eq_left h
 
 -- ---- the bytes are the outcomes of the stations' values, grades and counts
 

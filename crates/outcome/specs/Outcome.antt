@@ -1,5 +1,5 @@
 -- The outcomes' bytes, from the stations' values, grades and counts.
-use Rattle.std.specs.Prelude.{ℕ, ◌/◌, ◌%◌, Bool, List, leb, get_or, if◌then◌else◌}
+use Rattle.std.specs.Prelude.{ℕ, ◌/◌, ◌%◌, min, Bool, List, get_or, if◌then◌else◌}
 use Rattle.line.specs.Line.{outcome_size, largest_outcomes}
 use Rattle.line.specs.Marks.{marked}
 use Rattle.broadcast.specs.Exchange.{flag_of}
@@ -16,4 +16,4 @@ outcome_at value grade garbled marks k =
 
 -- how many bytes of a buffer of this length are written: those of 32 stations at most
 unfoldable pub reach : ℕ → ℕ
-reach size = if leb size largest_outcomes then size else largest_outcomes
+reach size = min size largest_outcomes

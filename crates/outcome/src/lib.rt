@@ -2,19 +2,22 @@
 #![tactic(auto)]
 
 ghost use Rattle.std.specs.Prelude.{◌≡◌, length};
-ghost use Rattle.line.specs.Writing.{Each, over};
+ghost use Rattle.line.specs.Writing.{over};
 ghost use Rattle.outcome.specs.Outcome.{outcome_byte, outcome_at, reach};
 
 use line::{Line, marks};
 
-// A station's outcome: value, grade, flag, and how many rounds had a garbled ballot; 255 four times at a bad one.
-fn outcome(bad: bool, value: u8, grade: u8, garbled: u8) -> [u8; Line::OUTCOME]
-    ensures { Each 4 result (outcome_byte bad value grade garbled) }
+// Byte d of a station's outcome: value, grade, flag, and how many rounds had a garbled ballot; 255 at a bad station.
+#[tactic(auto, unfolding(crate::specs::Outcome::outcome_byte, broadcast::specs::Bytes::pick))]
+fn outcome_byte(bad: bool, value: u8, grade: u8, garbled: u8, d: usize) -> u8
+    ensures { result ≡ outcome_byte bad value grade garbled d }
 {
-    if bad {
-        [255; Line::OUTCOME]
-    } else {
-        [value, grade, step::flag(grade), garbled]
+    match d {
+        _ if bad => 255,
+        0 => value,
+        1 => grade,
+        2 => step::flag(grade),
+        _ => garbled,
     }
 }
 
@@ -26,7 +29,6 @@ pub fn write(value: [u8; 32], grade: [u8; 32], garbled: [u8; 32], marks: u32, ou
     for (k, byte) in outcomes[..end].iter_mut().enumerate() {
         let i = k / Line::OUTCOME;
         let bad = marks::is_marked(marks, i as u8);
-        let four = outcome(bad, value[i], grade[i], garbled[i]);
-        *byte = four[k % Line::OUTCOME];
+        *byte = outcome_byte(bad, value[i], grade[i], garbled[i], k % Line::OUTCOME);
     }
 }

@@ -36,7 +36,8 @@ fn run_end(said: &[u8; 32], marks: u32, i: usize, n: usize) -> usize
     n
 }
 
-// All senders' ballots of the round whose bytes start at `start`: good ones that say the same are written at once.
+// All senders' ballots of the round whose bytes start at `start`: good ones that say the same are written at once, since a `for` that writes
+// sender by sender costs a rehearsal with none marked a third more instructions.
 fn post_all(said: &[u8; 32], log: &mut [u8], table: &[u8], marks: u32, start: usize, n: usize)
     requires { (n ≤ 32) × (start + n * n ≤ length log.old) × (start + n * n ≤ length table.now) }
     ensures { log.new ≡ over log.old start (n * n) (ballot_at said.now table.now marks start n) }
