@@ -7,9 +7,10 @@ use native.Mathlib.Omega.{arith}
 use native.Mathlib.Numerals.{add-one}
 use lib.Dec.{ltb, eqb}
 use lib.ListN.{length, get_or, replicate}
-use borrow.Author.Tests.{ltb-true, ltb-false, lt-ltb, le-ltb}
+use borrow.Author.Tests.{le-ltb}
 use lib.Pow.{pow_pos}
 use Rattle.std.specs.Prelude.{if◌then◌else◌}
+use Rattle.std.proofs.lemmas.Bool.Decides.{nat_tests}
 use Rattle.line.specs.Line.{has_round}
 use Rattle.line.specs.Marks.{marked}
 use Rattle.line.specs.Ballot.{blank, silence, is_garbled}
@@ -39,21 +40,10 @@ nothing_above bound = le-ltb bound 0 (omega arith)
 
 beyond : (bound b : ℕ) → ltb bound (but_silence b) ≡ (ltb bound b && not (eqb b silence))
 unfolding but_silence
-beyond bound b = go (eqb b silence) (ltb bound b) refl
-  where
-    go : (c d : Bool) → ltb bound b ≡ d → ltb bound (if c then 0 else b) ≡ (d && not c)
-    go true true e = nothing_above bound
-    go true false e = nothing_above bound
-    go false true e = e
-    go false false e = e
+beyond bound b = grind (arith, nat_tests)
 
 max_above : (bound a b : ℕ) → ltb bound (max a b) ≡ (ltb bound a || ltb bound b)
-max_above bound a b = go (ltb bound a) (ltb bound b) refl refl
-  where
-    go : (c d : Bool) → ltb bound a ≡ c → ltb bound b ≡ d → ltb bound (max a b) ≡ (c || d)
-    go true d e f = lt-ltb bound (max a b) (omega (arith, ltb-true bound a e))
-    go false true e f = lt-ltb bound (max a b) (omega (arith, ltb-true bound b f))
-    go false false e f = le-ltb bound (max a b) (omega (arith, ltb-false bound a e, ltb-false bound b f))
+max_above bound a b = grind (arith, nat_tests)
 
 -- a byte is above the bound, silence as 0, exactly if its reading is garbled
 noise_is : (p : Part) (b : ℕ) → ltb (above p) (but_silence b) ≡ is_garbled (reading (of_part p) b)
@@ -66,20 +56,13 @@ noise_is (King p) b = beyond 1 b ∙ sym (garbled_king b)
 -- one byte more, of a sender who is looked at or not
 one_more : (p : Part) (c : Bool) (top b k : ℕ) → ltb (above p) top ≡ ltb 0 k
     → ltb (above p) (if c then max top (but_silence b) else top) ≡ ltb 0 ((if c && is_garbled (reading (of_part p) b) then 1 else 0) + k)
-one_more p c top b k e = go c
+one_more p true top b k e =
+    max_above (above p) top (but_silence b) ∙ rw (e, noise_is p b) (counted (is_garbled (reading (of_part p) b)))
   where
-    plain : 0 + k ≡ k
-    plain = omega arith
-
-    counted : (g d : Bool) → ltb 0 k ≡ d → (d || g) ≡ ltb 0 ((if g then 1 else 0) + k)
-    counted true true f = sym (lt-ltb 0 (1 + k) (omega arith))
-    counted true false f = sym (lt-ltb 0 (1 + k) (omega arith))
-    counted false true f = sym (ap (ltb 0) plain ∙ f)
-    counted false false f = sym (ap (ltb 0) plain ∙ f)
-
-    go : (c : Bool) → ltb (above p) (if c then max top (but_silence b) else top) ≡ ltb 0 ((if c && is_garbled (reading (of_part p) b) then 1 else 0) + k)
-    go true = max_above (above p) top (but_silence b) ∙ rw (e, noise_is p b) (counted (is_garbled (reading (of_part p) b)) (ltb 0 k) refl)
-    go false = e ∙ sym (ap (ltb 0) plain)
+    counted : (g : Bool) → (ltb 0 k || g) ≡ ltb 0 ((if g then 1 else 0) + k)
+    counted true = grind (arith, nat_tests)
+    counted false = grind (arith, nat_tests)
+one_more p false top b k e = grind (arith, nat_tests)
 
 module _ (n senders sender : ℕ) (p : Part) (bytes : List ℕ) (start : ℕ) where
   -- of the first m stations' bytes for j that are looked at, the highest but for silence
