@@ -39,6 +39,7 @@ pub fn kept_on(line: Line, said: &[u8; 32], bytes: &[u8], start: usize, kept: [u
     if !line.has_round(start, bytes.len()) {
         return [0; 32];
     }
+    // A loop over the stations there are: `array::from_fn` goes over all 32, a third more instructions for a log of four stations.
     let mut next = [0; 32];
     for i in 0..line.n as usize {
         let same = sends(line, bytes, start, i, said[i]);
