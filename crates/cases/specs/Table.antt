@@ -1,6 +1,6 @@
 -- What a row of a table is: a sheet, and what must come out of it. The parts that rows are written with.
 use Rattle.std.specs.Prelude.{ℕ, ◌≡◌, List, [], ◌∷◌, length}
-use Rattle.refusal.specs.Cause.{code, values, answered}
+use Rattle.refusal.specs.Cause.{code, values}
 use Rattle.layout.specs.Layout.{header}
 use Rattle.layout.specs.Chain.{Fate}
 use Rattle.listing_lines.specs.Lines.{Field, agree, num, dash, verdict, lines}
@@ -17,6 +17,10 @@ use Rattle.offer.specs.Offers.{offer_for, offer_bytes, show_answer, accept_answe
 use Rattle.offer.specs.Theorems.{kept}
 
 -- ---- a station's rows
+
+-- the station of this number that a sheet's header opens
+abbrev pub opened_by : List ℕ → ℕ → Station
+opened_by s own = let h = header s in opened_station h.line.n h.line.t h.line.upper h.sender own h.value
 
 -- .. and after these rows, each by its offer's acceptance
 abbrev pub stepped : Station → List (List ℕ) → Station
@@ -56,9 +60,9 @@ Comes s (refused_by k) = (fate : Fate s) × (code (verdict s fate) ≡ k)
 Comes s (draws seed b) = generated (header s) seed ≡ b
 Comes s (lists seed l) = seed_lines (header s) seed ≡ l
 Comes s (draws_not seed size k) = code (generate_verdict s seed size) ≡ k
-Comes s (offers own rows row b) = (values offer_bytes) (show_answer (stepped (answered s own) rows) row) ≡ b
-Comes s (offers_not own rows row k) = code (show_answer (stepped (answered s own) rows) row) ≡ k
-Comes s (accepts own rows row held k) = code (accept_answer (stepped (answered s own) rows) row held) ≡ k
+Comes s (offers own rows row b) = (values offer_bytes) (show_answer (stepped (opened_by s own) rows) row) ≡ b
+Comes s (offers_not own rows row k) = code (show_answer (stepped (opened_by s own) rows) row) ≡ k
+Comes s (accepts own rows row held k) = code (accept_answer (stepped (opened_by s own) rows) row held) ≡ k
 
 -- every row holds
 abbrev pub All : List Case → Type 0

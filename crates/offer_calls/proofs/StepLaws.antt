@@ -18,8 +18,9 @@ module _ (s : Station) (row : List ℕ) (offer : ℕ) {f : Offer} (g : f ≡ off
   by_acceptance : {r : Result Station Cause} → Accepts s row f r → AcceptsLent s row offer (left s r) (code r)
   unfolding accepted_or_same
   by_acceptance p =
-      rw g
-      (record { answer_is = code_by (accepting_verdict s row f) _ p.answer; station_is = left_by s _ (accepting_verdict s row f) p.answer })
+      let v = accepting_verdict s row (offer_in offer) in
+      let q = rw g at p in
+      record { answer_is = code_by v _ q.answer; station_is = left_by s _ v q.answer }
 
   pub accepted_next : {r : Result Station Cause} {next : Station} → Accepts s row f r → r ≡ Ok next → AcceptsLent s row offer next 0
   accepted_next p e = rw e at (by_acceptance p)

@@ -3,4 +3,4 @@ use Rattle.std.proofs.Common.{rules}
 use Rattle.exports.proofs.vembopu_sheet_len.Goals as goal
 
 pub returns : goal.returns
-returns c = record { answer = c.needed.result; needs = c.needed.ensures; word_is = search rules }
+returns c = record { answer = c.needed-needed.result; needs = c.needed-needed.ensures; word_is = search rules }
