@@ -53,7 +53,7 @@ fn put(table: &mut [u8], start: usize, placed: Placed)
 pub(crate) fn fill(kept: &[Placed], start: usize, table: &mut [u8])
     ensures { table.new ≡ laid kept.now start (length table.old) (length kept.now) }
 {
-    table.fill(Line::SILENCE);
+    slices::fill(table, Line::SILENCE);
     for placed in kept {
         put(table, start, *placed);
     }
