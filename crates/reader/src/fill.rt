@@ -4,8 +4,8 @@ ghost use Rattle.reader.specs.Loops.{Holds, place_in, ballot_in, put_at, laid};
 
 use line::Line;
 
-// A chained record's ballot, with its place in all bits' tables, as one number: 4,096 of them are cleared for every sheet, and with a number and a byte side by
-// side that takes twice the stack and three times the time.
+// A chained record's ballot, with its place in all bits' tables, as one number: 4,096 of them are cleared for every sheet. As a number and a byte side by side
+// they take twice the stack, and a sheet of few records more than twice the time.
 #[derive(Clone, Copy)]
 pub(crate) struct Placed {
     packed: u32,
