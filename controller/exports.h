@@ -75,8 +75,8 @@ static inline int vembopu_is_bad(const uint8_t *outcome)
  * dynamic linker needs more in the first call.
  */
 enum {
-    VEMBOPU_STACK_READ = 70656,
-    VEMBOPU_STACK_READ_BIT = 70656,
+    VEMBOPU_STACK_READ = 54016,
+    VEMBOPU_STACK_READ_BIT = 54016,
     VEMBOPU_STACK_SHEET_LEN = 256,
     VEMBOPU_STACK_WRITE = 512,
     VEMBOPU_STACK_GENERATE = 192,

@@ -22,9 +22,6 @@ WORD = re.compile(r"[\w\-◌']+")
 NAME = re.compile(r"[A-Za-z_◌][\w\-◌']*(::[A-Za-z_]\w*)*\Z")
 PATH = re.compile(r"[\w.*\-]*/[\w./*\-]+\Z")
 EDIT = re.compile(r"`(\w+)`(\*?)")
-# what a crate is listed with and doesn't name: the enums of refusal are in what stored_run matches; the other three named line once, and each crate above them would be proved anew
-# without it in their lines
-UNNAMED = {("stored_run", "refusal"), ("text", "line"), ("refusal", "line"), ("record", "line")}
 
 
 def tracked():
@@ -156,7 +153,7 @@ def crates():
     for name in order:
         yield f"crates.txt: {name} uses crates above it", all(use not in order[order.index(name):] for use in uses[name])
         for use in uses[name]:
-            yield f"crates.txt: {name} names {use}", (name, use) in UNNAMED or named(name, use)
+            yield f"crates.txt: {name} names {use}", named(name, use)
 
 
 if __name__ == "__main__":

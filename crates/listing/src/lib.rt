@@ -94,7 +94,7 @@ pub fn list(sheet: &[u8], table: &mut [u8], log: &mut [u8], text: &mut [u8]) -> 
     ensures { Lists sheet.now table.old table.new log.old log.new text.old text.new result }
 {
     let len = layout::table_len(sheet);
-    let a = len.min(table.len());
-    let b = a.min(log.len());
+    let a = slices::shorter(len, table.len());
+    let b = slices::shorter(a, log.len());
     list_whole(sheet, &mut table[..b], &mut log[..b], text)
 }

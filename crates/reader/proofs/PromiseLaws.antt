@@ -14,7 +14,7 @@ use mir.Val.{Fits as FitsWord}
 use Rattle.line.specs.Width.{bits, part_of}
 use Rattle.line.proofs.LineLaws.{table_bound, product_fits}
 use Rattle.line.proofs.WidthLaws.{bits_most}
-use Rattle.refusal.specs.Cause.{◌or_else◌, code, written, given, no_cause, answered}
+use Rattle.refusal.specs.Cause.{◌or_else◌, written, no_cause, answered}
 use Rattle.header.specs.Header.{exact_length}
 use Rattle.refusal.specs.declared.cause.Cause.{Cause}
 use Rattle.refusal.specs.Cause.{Verdict}
@@ -140,7 +140,7 @@ module _ (s : List ℕ) where
       → h ≡ header s → table₁ ≡ laid (take m kept) start (length table) (length (take m kept)) → ReadsPart s start table table₁ (Ok h)
   whole_read start table table₁ kept m h o w q e =
       let k : length (take m kept) ≡ m = simp length-take (min-eq_left (omega (arith, w.kept_length, w.most))) in
-      let all : Kept s m (take m kept) = λ a l. get_or-take m kept a none l ∙ w.all_kept a l in
+      let all : Kept s m (take m kept) = λ a l. rw (get_or-take m kept a none l) (w.all_kept a l) in
       record {
         fate = ends m w.chain;
         answer_is = rw (w.judged, q);

@@ -35,7 +35,7 @@ use Rattle.judgement.specs.Judgement.{record_verdict, records_verdict, chain_ver
 use Rattle.judgement.proofs.RangeLaws.{InNumbers, judged_by_numbers}
 use Rattle.reader.specs.Reading.{place_of, filled}
 use Rattle.reader.specs.Loops as loops
-use Rattle.reader.specs.Loops.{SoundHeader, none, place_by, record_by, Taken, walked_by, Hit, kept_of, Kept, Whole, Told, Fated, put_at, laid}
+use Rattle.reader.specs.Loops.{SoundHeader, none, place_by, record_by, Taken, walked_by, Hit, place_in, ballot_in, Holds, KeptOf, Kept, Whole, Told, Fated, put_at, laid}
 use Rattle.reader.specs.declared.fill.Placed.{Placed}
 use Rattle.reader.proofs.SeenLaws.{judged_by_seen}
 
@@ -62,10 +62,10 @@ place_most h r sound w =
 -- its length stays, and one ballot more is put into it
 pub put_length : (table : List ℕ) (start : ℕ) (p : Placed) → length (put_at table start p) ≡ length table
 unfolding put_at
-put_length table start p = go (leb start p.place)
+put_length table start p = go (leb start (place_in p))
   where
-    go : (b : Bool) → length (if b then set table (p.place - start) p.ballot else table) ≡ length table
-    go true = length-set table (p.place - start) p.ballot
+    go : (b : Bool) → length (if b then set table (place_in p - start) (ballot_in p) else table) ≡ length table
+    go true = length-set table (place_in p - start) (ballot_in p)
     go false = refl
 
 pub laid_length : (kept : List Placed) (start size m : ℕ) → length (laid kept start size m) ≡ size
@@ -97,17 +97,17 @@ silent_part start size all h =
     ∙ sym (get_or-replicate {A = ℕ} size k 255 0 g))
 
 -- a ballot put into a part is one put into all tables
-put_part : (tables : List ℕ) (start size p ballot : ℕ)
-    → put_at (take size (drop start tables)) start (record { place = p; ballot = ballot }) ≡ take size (drop start (set tables p ballot))
+put_part : (tables : List ℕ) (start size : ℕ) (placed : Placed) (p ballot : ℕ) → Holds placed p ballot
+    → put_at (take size (drop start tables)) start placed ≡ take size (drop start (set tables p ballot))
 unfolding put_at
-put_part tables start size p ballot =
-    ⊎_elim
+put_part tables start size placed p ballot h =
+    rw (h.place_is, h.ballot_is) (⊎_elim
     (λ (h : start ≤ p).
     let e : p ≡ start + (p - start) = omega arith in
     rw (le-leb start p h)
     (inside (p - start) ∙ ap (λ (q : ℕ). take size (drop start (set tables q ballot))) (sym e)))
     (λ (h : p < start). rw (lt-leb start p h, drop-set-lt start tables p ballot h))
-    (le_or_lt start p)
+    (le_or_lt start p))
   where
     inside : (q : ℕ) → set (take size (drop start tables)) q ballot ≡ take size (drop start (set tables (start + q) ballot))
     inside q =
@@ -170,11 +170,11 @@ module _ (s : List ℕ) where
   }
 
   -- one record more is kept
-  kept_turn : (m : ℕ) (kept : List Placed) → m < length kept → Kept s m kept → Kept s (m + 1) (set kept m (kept_of s (reached s m)))
-  kept_turn m kept h k a l =
+  kept_turn : (m : ℕ) (kept : List Placed) (p : Placed) → m < length kept → KeptOf s (reached s m) p → Kept s m kept → Kept s (m + 1) (set kept m p)
+  kept_turn m kept p h new k a l =
       let le : a ≤ m = omega arith in
       ⊎_elim
-      (λ (e : a ≡ m). rw (e, get_or-set_same))
+      (λ (e : a ≡ m). rw (e, get_or-set_same) new)
       (λ (h : a < m). let ne : a ≢ m = λ e. omega arith in rw get_or-set_other (k a h))
       (eq-or-lt_of_le le)
 
@@ -209,7 +209,7 @@ module _ (s : List ℕ) where
             chained = chained_here;
             judged_all = verdict_pass m g.judged_all (verdict_here ∙ e);
             seen_is = t.seen_is e ∙ rw (add-one, place_here, g.seen_is);
-            all_kept = rw (t.kept_is e, place_here, ballot_here) (kept_turn m kept₀ p g.all_kept);
+            all_kept = kept_turn m kept₀ placed p (rw (← place_here, ← ballot_here) (t.kept_is e)) g.all_kept;
             kept_length = simp length-set g.kept_length;
           }
 
@@ -280,5 +280,5 @@ module _ (s : List ℕ) where
   unfolding laid filled
   laid_filled kept start size zero h k = sym (silent_part start size (tables_wanted s) h)
   laid_filled kept start size (suc m) h k =
-      rw (laid_filled kept start size m h (λ a l. k a (omega arith)), k m (omega arith))
-      (put_part (filled s m) start size (place_of s (reached s m)) (ballot s (reached s m)))
+      rw (laid_filled kept start size m h (λ a l. k a (omega arith)))
+      (put_part (filled s m) start size (get_or kept m none) (place_of s (reached s m)) (ballot s (reached s m)) (k m (omega arith)))

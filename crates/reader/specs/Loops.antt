@@ -27,9 +27,20 @@ use Rattle.reader.specs.declared.fill.Placed.{Placed}
 abbrev pub SoundHeader : Header → Type 0
 SoundHeader h = SoundNumber h.line.n h.line.t h.line.upper h.sender h.value h.w h.marks
 
+-- a ballot and its place, of the one number that they are kept as
+unfoldable pub place_in : Placed → ℕ
+place_in p = p.packed / 256
+
+unfoldable pub ballot_in : Placed → ℕ
+ballot_in p = p.packed % 256
+
+pub record Holds (p : Placed) (place ballot : ℕ) : Type 0 where
+  pub place_is : place_in p ≡ place
+  pub ballot_is : ballot_in p ≡ ballot
+
 -- nothing kept
 abbrev pub none : Placed
-none = record { place = 0; ballot = 0 }
+none = record { packed = 0 }
 
 -- a sheet that causes 1, 15 and 2 to 6 let through, with its header, and room for all ballots with their places
 pub record Walkable (s : List ℕ) (h : Header) (kept : List Placed) : Type 0 where
@@ -72,7 +83,7 @@ record_by h r places =
 pub record Taken (h : Header) (r : Record) (seen₀ seen₁ : List ℕ) (kept : Placed) (v : Verdict) : Type 0 where
   pub verdict_is : v ≡ record_by h r seen₀
   pub seen_is : v ≡ no_cause → seen₁ ≡ with_place seen₀ (place_by h.line r)
-  pub kept_is : v ≡ no_cause → kept ≡ record { place = place_by h.line r; ballot = r.ballot }
+  pub kept_is : v ≡ no_cause → Holds kept (place_by h.line r) r.ballot
 
 -- ---- the walk
 
@@ -88,12 +99,12 @@ pub record Hit (s : List ℕ) (m i : ℕ) (c : Cause) : Type 0 where
   pub judged : records_verdict s m ≡ Err c
 
 -- the record with index i is kept so
-abbrev pub kept_of : List ℕ → ℕ → Placed
-kept_of s i = record { place = place_of s i; ballot = ballot s i }
+abbrev pub KeptOf : List ℕ → ℕ → Placed → Type 0
+KeptOf s i p = Holds p (place_of s i) (ballot s i)
 
 -- the first m records of the chain are kept
 abbrev pub Kept : List ℕ → ℕ → List Placed → Type 0
-Kept s m kept = (a : ℕ) → a < m → get_or kept a none ≡ kept_of s (reached s a)
+Kept s m kept = (a : ℕ) → a < m → KeptOf s (reached s a) (get_or kept a none)
 
 -- a chain of m records that pass, all kept
 pub record Whole (s : List ℕ) (m : ℕ) (kept : List Placed) : Type 0 where
@@ -128,7 +139,7 @@ pub record ReadsPart (s : List ℕ) (start : ℕ) (table₀ table₁ : List ℕ)
 
 -- a ballot in its place, if that is in the part
 unfoldable pub put_at : List ℕ → ℕ → Placed → List ℕ
-put_at table start p = if leb start p.place then set table (p.place - start) p.ballot else table
+put_at table start p = if leb start (place_in p) then set table (place_in p - start) (ballot_in p) else table
 
 -- 255 everywhere in a part of this length, then the first m ballots
 unfoldable pub laid : List Placed → (start size m : ℕ) → List ℕ

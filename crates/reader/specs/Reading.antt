@@ -34,7 +34,7 @@ table_of s (ends m e) = filled s m
 abbrev pub bit_table : (s : List ℕ) → Fate s → ℕ → List ℕ
 bit_table s f b = part_of (table_wanted s) (table_of s f) b
 
--- ---- the answer: for each case of the enum, document 01's number, 0 where nothing is refused, and its values
+-- ---- the answer's values: the header's numbers
 
 -- n, t, T, sender, value, w, marks
 abbrev pub numbers_of : Header → List ℕ

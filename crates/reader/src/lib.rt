@@ -21,10 +21,7 @@ fn read_chain(sheet: &[u8], start: usize, table: &mut [u8]) -> Result<Header, Ca
     ensures { ReadsPart sheet.now start table.old table.new result }
 {
     let header = layout::header_of(sheet);
-    let mut kept = [Placed {
-        place: 0,
-        ballot: 0,
-    }; walk::RECORDS];
+    let mut kept = [Placed::NONE; walk::RECORDS];
     let m = walk::walk(sheet, header, &mut kept)?;
     fill::fill(&kept[..m], start, table);
     Ok(header)

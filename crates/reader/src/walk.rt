@@ -40,8 +40,7 @@ fn judge(
     let bits = width::bits(header.w);
     judgement::numbers_verdict(header.line.n, last, bits, header.marks, record)?;
     let p = place(header.line, record);
-    kept.place = p as u32;
-    kept.ballot = record.ballot;
+    *kept = Placed::new(p, record.ballot);
     seen::look(seen, p)
 }
 

@@ -44,7 +44,7 @@ pub fn bit(header: Header, b: u8, table: &[u8], log: &mut [u8], outcomes: &mut [
         return rehearsal::rehearse(one, table, log, outcomes);
     }
     let mut part = [0u8; PART];
-    let m = outcomes.len().min(PART);
+    let m = slices::shorter(outcomes.len(), PART);
     bit_beside(one, b, table, log, &mut part[..m], outcomes)
 }
 

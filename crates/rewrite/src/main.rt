@@ -46,7 +46,7 @@ fn rewritten(sheet: &[u8], out: &mut [u8; LONGEST]) -> usize
     ensures { Rewritten sheet.now out.new result × IsPrefixLen result out.new }
 {
     let mut table = [255; Line::LARGEST_TABLES];
-    let len = layout::tables_len(sheet).min(Line::LARGEST_TABLES);
+    let len = slices::shorter(layout::tables_len(sheet), Line::LARGEST_TABLES);
     rewrite(sheet, &mut table[..len], out)
 }
 

@@ -111,7 +111,7 @@ fn listed(sheet: &[u8], out: &mut [u8; LONGEST], terminal: Option<Stderr>) -> us
 {
     let mut table = [255; Line::LARGEST_TABLE];
     let mut log = [255; Line::LARGEST_TABLE];
-    let len = layout::table_len(sheet).min(Line::LARGEST_TABLE);
+    let len = slices::shorter(layout::table_len(sheet), Line::LARGEST_TABLE);
     list(sheet, &mut table[..len], &mut log[..len], out, terminal)
 }
 

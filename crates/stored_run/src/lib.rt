@@ -24,7 +24,7 @@ fn decide(out: &impl Print, h: Header, table: &[u8], log: &mut [u8], outcomes: &
 fn accepted(out: &impl Print, h: Header, table: &[u8], lent: u16) {
     print::header(out, h, table);
     let mut log = sevens();
-    let a = log.len().min(lent as usize);
+    let a = slices::shorter(lent as usize, log.len());
     let mut outcomes = sevens();
     let b = Line::OUTCOME * (h.line.n as usize);
     decide(out, h, table, &mut log[..a], &mut outcomes[..b]);

@@ -10,8 +10,6 @@ use Rattle.selection.specs.Places.{how_many}
 use Rattle.writer.specs.Sheet.{sheet, sheet_length}
 use Rattle.writer.specs.Judgement.{before_buffer, write_verdict}
 
--- ---- the answers: for each case of the enums, the documents' number, 0 where nothing is refused, and its values
-
 -- ---- the promises, for every header, every table and every buffer
 
 pub record Needs (h table : List ℕ) (answer : Result ℕ Cause) : Type 0 where

@@ -10,8 +10,8 @@ returns-then-b-eq0 c =
 
 pub bit_beside-requires : goal.bit_beside-requires
 bit_beside-requires c =
-    let m : c.min-m.result ≤ 129 = omega (arith, c.min-m.ensures) in
-    (omega (arith, c.if-b-eq0.false), length-take-le _ (replicate 129 0) m ∙ c.min-m.ensures)
+    let m : c.shorter-m.result ≤ 129 = c.shorter-m.ensures.2 in
+    (omega (arith, c.if-b-eq0.false), length-take-le _ (replicate 129 0) m ∙ c.shorter-m.ensures.0)
 
 pub returns : goal.returns
 returns c = rw c.bit-value.ensures at c.bit_beside.ensures

@@ -15,4 +15,4 @@ slice_bounds-rewrite-end c = sym (length-take-le _ _ (enough 255 _ (omega arith)
 
 pub rewrite-requires : goal.rewrite-requires
 rewrite-requires c =
-    (length-take-le _ _ (enough 255 _ (omega arith)) ∙ c.min-len.ensures ∙ ap (λ (k : ℕ). min k 294912) c.tables_len.ensures, omega arith)
+    (length-take-le _ _ (enough 255 _ (omega arith)) ∙ c.shorter-len.ensures.0 ∙ ap (λ (k : ℕ). min k 294912) c.tables_len.ensures, omega arith)

@@ -16,5 +16,5 @@ lent r h = length-take-le r filled (omega (arith, length-replicate {A = ℕ} 368
 
 pub list-requires : goal.list-requires
 list-requires c =
-    let long = lent c.min-len.result (omega arith) in
-    (long ∙ c.min-len.ensures ∙ ap (λ (k : ℕ). min k 36864) c.table_len.ensures, long ∙ sym long, omega arith)
+    let long = lent c.shorter-len.result (omega arith) in
+    (long ∙ c.shorter-len.ensures.0 ∙ ap (λ (k : ℕ). min k 36864) c.table_len.ensures, long ∙ sym long, omega arith)

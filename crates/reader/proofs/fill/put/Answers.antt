@@ -8,7 +8,7 @@ use Rattle.reader.proofs.fill.put.Goals.{else-start-place-via-then-start-place+e
 
 pub returns-then-place-start : goal.returns-then-place-start
 unfolding put_at
-returns-then-place-start c = rw (le-leb c.args.start c.args.placed.place c.if-start-place.true)
+returns-then-place-start c = rw (← c.place-place.ensures, le-leb c.args.start _ c.if-start-place.true, c.ballot.ensures)
 
 pub returns-else-start-place : goal.returns-else-start-place
 unfolding put_at
@@ -16,6 +16,6 @@ returns-else-start-place c =
     let a = c.args in
     elim c.else-start-place.branch [
       | else-start-place-via-then-start-place+else-place-start w ↦
-          rw (le-leb a.start a.placed.place w.if-start-place.true) (sym (set_out _ _ _ w.if-place-start.false))
-      | else-start-place-via-else-start-place w ↦ rw (lt-leb a.start a.placed.place w.if-start-place.false)
+          rw (← c.place-place.ensures, le-leb a.start _ w.if-start-place.true) (sym (set_out _ _ _ w.if-place-start.false))
+      | else-start-place-via-else-start-place w ↦ rw (← c.place-place.ensures, lt-leb a.start _ w.if-start-place.false)
     ]

@@ -29,8 +29,8 @@ place-p-requires c =
     let w = accepted_in_range _ _ _ _ _ _ c.numbers_verdict.ensures.answer_is passed in
     (w.round_low, w.from_low, w.to_low)
 
-pub overflow_cast-kept : goal.overflow_cast-kept
-overflow_cast-kept c =
+pub new-requires : goal.new-requires
+new-requires c =
     let passed : c.numbers_verdict.result ≡ no_cause = search rules in
     let is = rw (c.rounds-last.ensures, c.bits-bits.ensures) at c.numbers_verdict.ensures.answer_is in
     let w = accepted_in_range _ _ _ _ _ _ is passed in
@@ -52,5 +52,5 @@ returns c =
     record {
       verdict_is = rw (sym is ∙ passed, ← at) c.look.ensures.0;
       seen_is = λ e. c.look.ensures.1 ∙ rw (e, at);
-      kept_is = λ e. rw at;
+      kept_is = λ e. rw at at c.new.ensures;
     }
